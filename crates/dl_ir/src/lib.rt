@@ -1,0 +1,17 @@
+//! What the crates of domlock speak of: names, modules, calls, heaps, answers and entries, and what evaluating
+//! an expression and running a statement mean. `docs/SEMANTICS.md` tells the rules.
+#![tactic(auto)]
+
+mod answers;
+mod calls;
+mod expressions;
+mod modules;
+mod names;
+mod statements;
+
+pub use answers::{Answer, End, Entry, Refusal};
+pub use calls::{Call, Calls};
+pub use expressions::{Cond, Expr, Op, RefSide, Rel};
+pub use modules::{FieldDecl, KindDecl, LocalDecl, Module, OpDecl, Text, Ty};
+pub use names::{Name, Value};
+pub use statements::{Block, Stmt};
