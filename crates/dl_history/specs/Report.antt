@@ -19,7 +19,8 @@ use Rattle.dl_ir.specs.declared.answers.Refusal.{Refusal}
 use Rattle.dl_ir.specs.declared.objects.Obj.{Obj}
 use Rattle.dl_ir.specs.Heap.{Objects, hidden_count}
 use Rattle.dl_ir.specs.Cover.{call_at}
-use Rattle.dl_shape.specs.Pool.{Change, moves_of}
+use Rattle.dl_ir.specs.declared.moves.Move.{Move}
+use Rattle.dl_shape.specs.Pool.{moves_of, in_rising_versions}
 
 -- two numbers with a dot between them, as names and the places of operations are written
 abbrev pub dotted : ℕ → ℕ → List ℕ
@@ -117,21 +118,16 @@ change_text (pos number) = codes "+" ++ decimal number
 change_text (negsuc number) = codes "-" ++ decimal (number + 1)
 
 -- the version and the change of a move
-abbrev pub step_text : Change → List ℕ
+abbrev pub step_text : Move → List ℕ
 step_text move = decimal move.version ++ codes " " ++ change_text move.change
 
 -- the line `VERSION -N TICKET` or `VERSION +N TICKET`
-abbrev pub move_line : Change → List ℕ
+abbrev pub move_line : Move → List ℕ
 move_line move = step_text move ++ codes " " ++ decimal move.ticket ++ codes "\n"
 
--- the lines of so many versions from a version on, where each has a move
-abbrev pub move_lines : List Change → ℕ → ℕ → List ℕ
-move_lines moves zero version = []
-move_lines moves (suc count) version = flat_map move_line (filter (λ (move : Change). move.version == version) moves) ++ move_lines moves count (version + 1)
-
--- the number of moves, and a line for each in rising versions
-abbrev pub pool_part : List Change → List ℕ
-pool_part moves = head_line (codes "pool ") (length moves) ++ move_lines moves (length moves) 1
+-- the number of moves, and a line for each
+abbrev pub pool_part : List Move → List ℕ
+pool_part moves = head_line (codes "pool ") (length moves) ++ flat_map move_line moves
 
 -- a value: a number, a name, or `-` for null
 abbrev pub value_text : Value → List ℕ
@@ -170,9 +166,9 @@ abbrev pub operations_part : Module → List (List Call) → List Entry → List
 operations_part source files history refusals = codes "domlock report 1\n" ++ answers_part files history refusals ++ history_part source files history
 
 -- what the report says of the pool and of the heap, and its last line
-abbrev pub state_part : Module → List Change → Objects → List ℕ
+abbrev pub state_part : Module → List Move → Objects → List ℕ
 state_part source moves heap = pool_part moves ++ heap_part source heap ++ codes "end\n"
 
 -- the report of a history and its refusals over the files of a module, and of the heap at the end
 abbrev pub report : Module → List (List Call) → List Entry → List Refusal → Objects → List ℕ
-report source files history refusals heap = operations_part source files history refusals ++ state_part source (moves_of source files history) heap
+report source files history refusals heap = operations_part source files history refusals ++ state_part source (in_rising_versions (moves_of source files history)) heap

@@ -6,6 +6,7 @@ mod answers;
 mod calls;
 mod expressions;
 mod modules;
+mod moves;
 mod names;
 mod statements;
 
@@ -13,5 +14,6 @@ pub use answers::{Answer, End, Entry, Refusal};
 pub use calls::{Call, Calls};
 pub use expressions::{Cond, Expr, Op, RefSide, Rel};
 pub use modules::{FieldDecl, KindDecl, LocalDecl, Module, OpDecl, Text, Ty};
+pub use moves::Move;
 pub use names::{Name, Value};
 pub use statements::{Block, Stmt};
