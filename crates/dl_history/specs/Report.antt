@@ -77,12 +77,12 @@ each_from text number [] = []
 each_from text number (x ∷ rest) = text number x ++ each_from text (number + 1) rest
 
 -- the line `CALLER.INDEX ANSWER`
-abbrev pub answer_line : List Entry → List Refusal → ℕ → ℕ → Call → List ℕ
-answer_line history refusals caller index call = dotted caller index ++ codes " " ++ outcome_text history refusals caller index ++ codes "\n"
+abbrev pub answer_line : List Entry → List Refusal → ℕ → ℕ → List ℕ
+answer_line history refusals caller index = dotted caller index ++ codes " " ++ outcome_text history refusals caller index ++ codes "\n"
 
 -- the lines of a caller's operations
 abbrev pub answer_lines : List Entry → List Refusal → ℕ → List Call → List ℕ
-answer_lines history refusals caller calls = each_from (answer_line history refusals caller) 1 calls
+answer_lines history refusals caller calls = each_from (λ index (call : Call). answer_line history refusals caller index) 1 calls
 
 -- a word with a space behind it, and a number
 abbrev pub head_line : List ℕ → ℕ → List ℕ
@@ -96,9 +96,13 @@ answers_part files history refusals = head_line (codes "answers ") (sum_by lengt
 abbrev pub argument_text : ℤ → List ℕ
 argument_text argument = codes " " ++ signed_decimal argument
 
+-- the name of the operation with this number
+abbrev pub op_text : Module → ℕ → List ℕ
+op_text source op = option_map_or (λ (decl : OpDecl). decl.name) (slice_get source.ops op) []
+
 -- the name of a call's operation and its arguments
 abbrev pub call_text : Module → Call → List ℕ
-call_text source call = option_map_or (λ (op : OpDecl). op.name) (slice_get source.ops call.op) [] ++ flat_map argument_text call.args
+call_text source call = op_text source call.op ++ flat_map argument_text call.args
 
 -- the place of an entry: `TICKET CALLER.INDEX`
 abbrev pub place_text : Entry → List ℕ
