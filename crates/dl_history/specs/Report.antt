@@ -176,3 +176,8 @@ state_part source moves heap = pool_part moves ++ heap_part source heap ++ codes
 -- the report of a history and its refusals over the files of a module, and of the heap at the end
 abbrev pub report : Module → List (List Call) → List Entry → List Refusal → Objects → List ℕ
 report source files history refusals heap = operations_part source files history refusals ++ state_part source (in_rising_versions (moves_of source files history)) heap
+
+-- there are at most 64 files, of at most 65,536 operations each
+pub record AreFew (files : List (List Call)) : Type 0 where
+  pub files_few : length files ≤ 64
+  pub calls_few : All (λ (calls : List Call). length calls ≤ 65536) files

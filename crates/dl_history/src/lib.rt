@@ -2,10 +2,12 @@
 //! `docs/FORMATS.md` has the form of the report.
 #![tactic(auto)]
 
-mod answers;
 mod heaps;
 mod histories;
 mod operations;
 mod pieces;
+mod pool;
+mod reports;
 
 pub use histories::History;
+pub use reports::write_report;

@@ -150,3 +150,46 @@ fn put_history_lines<K: Sink>(out: &mut Out, sink: &mut K, source: &Module, file
     }
     Ok(())
 }
+
+// Puts the lines of each caller's operations.
+fn put_all_answer_lines<K: Sink>(out: &mut Out, sink: &mut K, files: &[Calls], entries: &[Entry], refusals: &[Refusal]) -> Result<(), Failed>
+    requires works { out.old.failed ≡ false }
+    requires few { AreFew files.now }
+    ensures { Puts (K.taken sink.old) out.old (each_from (answer_lines entries.now refusals.now) 1 files.now) result (K.taken sink.new) out.new }
+{
+    'callers: for i in 0..files.len() {
+        put_answer_lines(out, sink, entries, refusals, i as u32 + 1, files[i].as_slice())?;
+    }
+    Ok(())
+}
+
+// The number of operations in all files.
+fn count_calls(files: &[Calls]) -> usize
+    requires { AreFew files.now }
+    ensures { result ≡ sum_by length files.now }
+{
+    let mut count = 0;
+    'callers: for calls in files {
+        count += calls.len();
+    }
+    count
+}
+
+/// Puts the number of operations, and a line for each.
+pub fn put_answers<K: Sink>(out: &mut Out, sink: &mut K, files: &[Calls], entries: &[Entry], refusals: &[Refusal]) -> Result<(), Failed>
+    requires works { out.old.failed ≡ false }
+    requires few { AreFew files.now }
+    ensures { Puts (K.taken sink.old) out.old (answers_part files.now entries.now refusals.now) result (K.taken sink.new) out.new }
+{
+    put_head(out, sink, b"answers ", count_calls(files))?;
+    put_all_answer_lines(out, sink, files, entries, refusals)
+}
+
+/// Puts the number of entries, and a line for each.
+pub fn put_history<K: Sink>(out: &mut Out, sink: &mut K, source: &Module, files: &[Calls], entries: &[Entry]) -> Result<(), Failed>
+    requires { out.old.failed ≡ false }
+    ensures { Puts (K.taken sink.old) out.old (history_part source.now files.now entries.now) result (K.taken sink.new) out.new }
+{
+    put_head(out, sink, b"history ", entries.len())?;
+    put_history_lines(out, sink, source, files, entries)
+}
