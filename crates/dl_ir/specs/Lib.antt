@@ -1,0 +1,5 @@
+pub mod Codes
+pub mod Heap
+pub mod Marks
+pub mod Places
+pub mod Values
