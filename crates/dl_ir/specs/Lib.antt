@@ -1,1 +1,3 @@
 pub mod CallForms
+pub mod Cover
+pub mod Evaluation

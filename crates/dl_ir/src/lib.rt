@@ -9,7 +9,7 @@ mod modules;
 mod names;
 mod statements;
 
-pub use answers::{Answer, End, Entry, Refusal};
+pub use answers::{Answer, End, Entry, Fault, Refusal};
 pub use calls::{Call, Calls};
 pub use expressions::{Cond, Expr, Op, RefSide, Rel};
 pub use modules::{FieldDecl, KindDecl, LocalDecl, Module, OpDecl, Text, Ty};
