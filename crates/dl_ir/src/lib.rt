@@ -12,7 +12,7 @@ mod names;
 mod objects;
 mod statements;
 
-pub use answers::{Answer, End, Entry, Refusal};
+pub use answers::{Answer, End, Entry, Fault, Refusal};
 pub use calls::{Call, Calls};
 pub use expressions::{Cond, Expr, Op, RefSide, Rel};
 pub use heaps::Heap;
