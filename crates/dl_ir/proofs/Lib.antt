@@ -2,4 +2,5 @@ mod Counted
 mod Edits
 mod Entries
 mod NameOrder
+mod Sealing
 mod Search
