@@ -3,4 +3,6 @@ mod Edits
 mod Entries
 mod NameOrder
 mod Sealing
+mod StartHeap
+mod Starts
 mod Search
