@@ -2,4 +2,7 @@ mod Counted
 mod Edits
 mod Entries
 mod NameOrder
+mod Sealing
+mod StartHeap
+mod Starts
 mod Search
