@@ -80,7 +80,11 @@ fn param_type(kind: &KindDecl, ty: &Word) -> Result<Ty, TypeFault>
     }
 }
 
-fn params_of(alloc: Global, kind: &KindDecl, trees: &[TreeField]) -> Result<Items<LocalDecl>, TypeFault>
+fn params_of(
+    alloc: Global,
+    kind: &KindDecl,
+    trees: &[TreeField],
+) -> Result<Items<LocalDecl>, TypeFault>
     ensures count { IfOk result (λ params. length params ≤ length trees.now) }
     ensures each { IfOk result (All IsCounterParam) }
 {
@@ -97,7 +101,11 @@ fn params_of(alloc: Global, kind: &KindDecl, trees: &[TreeField]) -> Result<Item
     Ok(params)
 }
 
-fn vars_of(alloc: Global, params: &[LocalDecl], trees: &[TreeField]) -> Result<Items<LocalDecl>, TypeFault>
+fn vars_of(
+    alloc: Global,
+    params: &[LocalDecl],
+    trees: &[TreeField],
+) -> Result<Items<LocalDecl>, TypeFault>
     ensures count { IfOk result (λ vars. length vars ≤ length trees.now) }
     ensures each { IfOk result (All IsNumberLocal) }
 {
@@ -161,7 +169,8 @@ fn op_of(alloc: Global, kind: &KindDecl, tree: &TreeOp) -> Result<OpDecl, TypeFa
 }
 
 fn has_op(ops: &[OpDecl], name: &Word) -> bool {
-    ops.iter().any(|op| op.name.as_slice() == name.text.as_slice())
+    ops.iter()
+        .any(|op| op.name.as_slice() == name.text.as_slice())
 }
 
 fn ops_of(alloc: Global, kind: &KindDecl, trees: &[TreeOp]) -> Result<Items<OpDecl>, TypeFault>

@@ -124,7 +124,11 @@ impl<'a> Cursor<'a> {
     }
 
     pub fn expect(&mut self, wanted: Fixed) -> Result<(), SyntaxFault> {
-        if self.eat(wanted) { Ok(()) } else { Err(SyntaxFault::NotYet) }
+        if self.eat(wanted) {
+            Ok(())
+        } else {
+            Err(SyntaxFault::NotYet)
+        }
     }
 
     /// A name, which is no reserved word.

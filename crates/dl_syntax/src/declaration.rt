@@ -25,7 +25,11 @@ fn field(alloc: Global, tokens: &mut Cursor<'_>) -> Result<TreeField, SyntaxFaul
 }
 
 /// One field or more, with commas between them, and at most `most`.
-fn some_fields(alloc: Global, tokens: &mut Cursor<'_>, most: usize) -> Result<Items<TreeField>, SyntaxFault>
+fn some_fields(
+    alloc: Global,
+    tokens: &mut Cursor<'_>,
+    most: usize,
+) -> Result<Items<TreeField>, SyntaxFault>
     ensures { IfOk result (λ fields. length fields ≤ most) }
 {
     let mut fields = Items::new(alloc);
@@ -79,7 +83,11 @@ fn params(alloc: Global, tokens: &mut Cursor<'_>) -> Result<Items<TreeField>, Sy
 }
 
 /// The vars of an operation, if it declares some.
-fn vars(alloc: Global, tokens: &mut Cursor<'_>, most: usize) -> Result<Items<TreeField>, SyntaxFault>
+fn vars(
+    alloc: Global,
+    tokens: &mut Cursor<'_>,
+    most: usize,
+) -> Result<Items<TreeField>, SyntaxFault>
     ensures { IfOk result (λ fields. length fields ≤ most) }
 {
     if !tokens.eat(Fixed::Var) {

@@ -9,10 +9,14 @@ mod fixed;
 mod module;
 mod scope;
 mod statement;
+#[cfg(test)]
+mod tests;
 mod tree;
-
 
 pub use counter::{TypeFault, check};
 pub use cursor::SyntaxFault;
 pub use module::read_module;
-pub use tree::{Rhs, Side, Tree, TreeBlock, TreeCond, TreeExpr, TreeField, TreeKind, TreeOp, TreeStmt, What, Word};
+pub use tree::{
+    Rhs, Side, Tree, TreeBlock, TreeCond, TreeExpr, TreeField, TreeKind, TreeOp, TreeStmt, What,
+    Word,
+};

@@ -97,7 +97,11 @@ impl Scope<'_> {
         ensures { IfOk result (λ e. is_counter_expr (local_type self.now.params.now self.now.vars.now) e ≡ true) }
     {
         match e {
-            TreeExpr::Bin { op: Op::Add, left, right } => {
+            TreeExpr::Bin {
+                op: Op::Add,
+                left,
+                right,
+            } => {
                 let left = self.operand(left.get())?;
                 let right = self.operand(right.get())?;
                 Ok(Expr::Bin {

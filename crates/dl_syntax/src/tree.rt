@@ -64,9 +64,16 @@ pub struct TreeStmt {
 #[derive(Debug, Drop)]
 pub enum What {
     /// `x = ..;`
-    Assign { x: Word, rhs: Rhs },
+    Assign {
+        x: Word,
+        rhs: Rhs,
+    },
     /// `p.f = ..;`
-    Store { p: Word, f: Word, rhs: Side },
+    Store {
+        p: Word,
+        f: Word,
+        rhs: Side,
+    },
     /// `if (c) {..} else {..}`
     If {
         c: TreeCond,
@@ -74,9 +81,14 @@ pub enum What {
         no: Items<TreeStmt>,
     },
     /// `while (c) {..}`
-    While { c: TreeCond, body: Items<TreeStmt> },
+    While {
+        c: TreeCond,
+        body: Items<TreeStmt>,
+    },
     /// `return e;`
-    Return { e: TreeExpr },
+    Return {
+        e: TreeExpr,
+    },
 }
 
 /// The right side of an assignment to a local.
