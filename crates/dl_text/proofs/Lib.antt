@@ -1,1 +1,5 @@
+pub mod Numbers
+pub mod Pieces
+pub mod Cuts
+pub mod State
 pub mod WritingLemmas
