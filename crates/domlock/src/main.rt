@@ -1,0 +1,8 @@
+//! Runs operation files of a module over a heap and prints a report.
+#![tactic(auto)]
+
+mod reading;
+mod status;
+mod words;
+
+fn main() {}
