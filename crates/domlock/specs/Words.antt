@@ -1,20 +1,22 @@
-use Rattle.std.specs.Prelude.{ℕ, ◌==◌, List, [], ◌∷◌, Option, Some, None, codes, bytes_eq, slice_get, if◌then◌else◌}
+use Rattle.std.specs.Prelude.{ℕ, ◌==◌, List, [], ◌∷◌, map, Option, Some, None, codes, bytes_eq, slice_get, if◌then◌else◌}
 use Rattle.domlock.specs.declared.words.Command.{Command}
-use Rattle.domlock.specs.declared.words.Command.TheVariants as commands
+use Rattle.domlock.specs.declared.words.Verb.{Verb}
+use Rattle.domlock.specs.declared.words.Verb.TheVariants as verbs
 
 -- a word, as its bytes
 abbrev pub Text : Type 0
 Text = List ℕ
 
--- a command: the path of the module and the paths of the files behind it
+-- a command: what to do, the path of the module, and the paths of the files behind it
 pub record Task : Type 0 where
+  pub verb : Verb
   pub first : Text
   pub rest : List Text
 
 -- the command that the words give, where they are good: `serial`, a module and one operation file
 abbrev pub task_of_words : List Text → Option Task
 task_of_words (command ∷ first ∷ calls ∷ []) =
-    if bytes_eq command (codes "serial") then Some (record { first = first; rest = calls ∷ [] }) else None
+    if bytes_eq command (codes "serial") then Some (record { verb = verbs.Serial; first = first; rest = calls ∷ [] }) else None
 task_of_words _ = None
 
 -- the path of a file of a command; the module is file 0
@@ -27,4 +29,4 @@ limit_of file = if file == 0 then 262144 else 4194304
 
 -- a command as the program holds it
 abbrev pub task_of : Command → Task
-task_of (commands.Serial source calls) = record { first = source.now; rest = calls.now ∷ [] }
+task_of command = record { verb = command.verb; first = command.first.now; rest = map string_bytes command.rest.now }

@@ -1,4 +1,4 @@
-ghost use Rattle.std.specs.Prelude.{◌≡◌, ◌<◌, ◌≤◌, ◌^◌, ℕ, Some, IfOk, IfErr, IsErrOf, length, codes};
+ghost use Rattle.std.specs.Prelude.{◌≡◌, ◌<◌, ◌≤◌, ◌^◌, ℕ, Some, IfOk, IfErr, IsErrOf, OnOk, length};
 ghost use Rattle.dl_io.specs.Source.{Tells};
 ghost use Rattle.domlock.specs.Reading.{StopCause, AfterReading, ReadCause, IsWithin};
 ghost use Rattle.domlock.specs.Words.{limit_of};
@@ -69,5 +69,33 @@ pub fn read_all<F: Files>(
             return Err(Stop::TooLong);
         }
         bytes.extend_from_slice(&buffer[..n])?;
+    }
+}
+
+// How many bytes a file may have.
+fn limit(file: u32) -> u64
+    ensures value { result ≡ limit_of file }
+    ensures small { result < 2 ^ 60 }
+{
+    if file == 0 { 262_144 } else { 4_194_304 }
+}
+
+/// Reads a file of a command to its end.
+pub fn read_file<F: Files>(
+    alloc: Global,
+    files: &mut F,
+    file: u32,
+    path: &str,
+) -> Result<Vec<u8>, Status>
+    ensures bytes { IfOk result (λ bytes. Tells ((F.source files.old).bytes_at path.now) bytes.items × (length bytes.items ≤ limit_of file)) }
+    ensures cause { IfErr result (λ status. ReadCause status file path.now (F.source files.old) (F.source files.new)) }
+    ensures within { OnOk result (IsWithin (F.source files.new)) }
+    ensures after { AfterReading (F.source files.old) (F.source files.new) }
+{
+    match read_all(alloc, files, file, path, limit(file)) {
+        Ok(bytes) => Ok(bytes),
+        Err(Stop::Failed) => Err(Status::ReadFault { file }),
+        Err(Stop::TooLong) => Err(Status::TooLong { file }),
+        Err(Stop::Memory) => Err(Status::Memory),
     }
 }

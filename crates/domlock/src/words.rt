@@ -33,11 +33,19 @@ impl Words {
     }
 }
 
-/// What the program is to do, with the paths of the files that it reads.
-#[derive(Clone, Copy)]
-pub enum Command<'a> {
+/// What the program is to do.
+#[derive(Clone, Copy, Debug, PartialEq, Eq)]
+pub enum Verb {
     /// Runs one operation file, operation after operation.
-    Serial { source: &'a str, calls: &'a str },
+    Serial,
+}
+
+/// What the program is to do, with the path of the module and those of the files behind it.
+#[derive(Clone, Copy)]
+pub struct Command<'a> {
+    pub verb: Verb,
+    pub first: &'a str,
+    pub rest: &'a [String],
 }
 
 /// Reads the words. So far they are `serial`, the path of a module and that of one operation file.
@@ -45,9 +53,10 @@ pub fn command_of(words: &Words) -> Option<Command<'_>>
     ensures { option_map task_of result ≡ task_of_words words.now }
 {
     match words.as_slice() {
-        [command, source, calls] if command.as_str() == "serial" => Some(Command::Serial {
-            source: source.as_str(),
-            calls: calls.as_str(),
+        [command, first, calls] if command.as_str() == "serial" => Some(Command {
+            verb: Verb::Serial,
+            first: first.as_str(),
+            rest: &words.as_slice()[2..],
         }),
         _ => None,
     }
