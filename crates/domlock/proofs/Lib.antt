@@ -1,1 +1,4 @@
+mod FileLemmas
+mod LoadingLemmas
 mod ReadingLemmas
+mod WordLemmas

@@ -4,4 +4,3 @@ pub mod Status
 pub mod Texts
 pub mod Causes
 pub mod Loading
-pub mod Promise
