@@ -1,5 +1,10 @@
+pub mod CallForms
 pub mod Codes
+pub mod Cover
+pub mod Evaluation
 pub mod Heap
 pub mod Marks
+pub mod Meaning
 pub mod Places
+pub mod Relation
 pub mod Values

@@ -1,5 +1,14 @@
 use crate::names::Name;
 
+/// Why an expression or a condition has no value.
+#[derive(Clone, Copy, Debug, PartialEq, Eq)]
+pub enum Fault {
+    /// A result was outside signed 64 bits.
+    Overflow,
+    /// A divisor was 0.
+    DivZero,
+}
+
 /// How an operation ended.
 #[derive(Clone, Copy, Debug, PartialEq, Eq)]
 pub enum End {

@@ -7,15 +7,17 @@ mod calls;
 mod expressions;
 mod heaps;
 mod modules;
+mod moves;
 mod names;
 mod objects;
 mod statements;
 
-pub use answers::{Answer, End, Entry, Refusal};
+pub use answers::{Answer, End, Entry, Fault, Refusal};
 pub use calls::{Call, Calls};
 pub use expressions::{Cond, Expr, Op, RefSide, Rel};
 pub use heaps::Heap;
 pub use modules::{FieldDecl, KindDecl, LocalDecl, Module, OpDecl, Text, Ty};
+pub use moves::Move;
 pub use names::{Name, Value};
 pub use objects::{Fields, Obj};
 pub use statements::{Block, Stmt};
