@@ -1,4 +1,4 @@
-ghost use Rattle.std.specs.Prelude.{◌≡◌, ◌×◌, false, length, Option, filter, nat_lt};
+ghost use Rattle.std.specs.Prelude.{◌≡◌, false, length, Option, filter, nat_lt};
 ghost use Rattle.std.specs.List.{flat_map, zip};
 ghost use Rattle.std.specs.FinMap as finite;
 ghost use Rattle.dl_ir.specs.Heap.{hidden_count};
@@ -9,7 +9,12 @@ use crate::pieces::{put_name, put_value};
 use dl_ir::{FieldDecl, Heap, KindDecl, Module, Name, Obj, Value};
 use dl_text::{Failed, Out, Sink};
 
-fn put_field<K: Sink>(out: &mut Out, sink: &mut K, decl: &FieldDecl, value: Value) -> Result<(), Failed>
+fn put_field<K: Sink>(
+    out: &mut Out,
+    sink: &mut K,
+    decl: &FieldDecl,
+    value: Value,
+) -> Result<(), Failed>
     requires { out.old.failed ≡ false }
     ensures { Puts (K.taken sink.old) out.old (field_text (decl.now, value)) result (K.taken sink.new) out.new }
 {
@@ -20,7 +25,12 @@ fn put_field<K: Sink>(out: &mut Out, sink: &mut K, decl: &FieldDecl, value: Valu
 }
 
 // Puts each field with its value.
-fn put_fields<K: Sink>(out: &mut Out, sink: &mut K, decls: &[FieldDecl], values: &[Value]) -> Result<(), Failed>
+fn put_fields<K: Sink>(
+    out: &mut Out,
+    sink: &mut K,
+    decls: &[FieldDecl],
+    values: &[Value],
+) -> Result<(), Failed>
     requires { out.old.failed ≡ false }
     ensures { Puts (K.taken sink.old) out.old (flat_map field_text (zip decls.now values.now)) result (K.taken sink.new) out.new }
 {
@@ -41,7 +51,12 @@ fn put_seal<K: Sink>(out: &mut Out, sink: &mut K, sealed: bool) -> Result<(), Fa
     }
 }
 
-fn put_object_of<K: Sink>(out: &mut Out, sink: &mut K, object: &Obj, kind: &KindDecl) -> Result<(), Failed>
+fn put_object_of<K: Sink>(
+    out: &mut Out,
+    sink: &mut K,
+    object: &Obj,
+    kind: &KindDecl,
+) -> Result<(), Failed>
     requires { out.old.failed ≡ false }
     ensures { Puts (K.taken sink.old) out.old (object_text object.now (Some kind.now)) result (K.taken sink.new) out.new }
 {
@@ -50,7 +65,12 @@ fn put_object_of<K: Sink>(out: &mut Out, sink: &mut K, object: &Obj, kind: &Kind
     put_fields(out, sink, kind.fields.as_slice(), object.fields.as_slice())
 }
 
-fn put_object<K: Sink>(out: &mut Out, sink: &mut K, source: &Module, object: &Obj) -> Result<(), Failed>
+fn put_object<K: Sink>(
+    out: &mut Out,
+    sink: &mut K,
+    source: &Module,
+    object: &Obj,
+) -> Result<(), Failed>
     requires { out.old.failed ≡ false }
     ensures { Puts (K.taken sink.old) out.old (object_text object.now (slice_get source.now.kinds object.now.kind)) result (K.taken sink.new) out.new }
 {
@@ -60,7 +80,12 @@ fn put_object<K: Sink>(out: &mut Out, sink: &mut K, source: &Module, object: &Ob
     }
 }
 
-fn put_object_line<K: Sink>(out: &mut Out, sink: &mut K, source: &Module, entry: &(Name, Obj)) -> Result<(), Failed>
+fn put_object_line<K: Sink>(
+    out: &mut Out,
+    sink: &mut K,
+    source: &Module,
+    entry: &(Name, Obj),
+) -> Result<(), Failed>
     requires { out.old.failed ≡ false }
     ensures { Puts (K.taken sink.old) out.old (object_line source.now entry.now) result (K.taken sink.new) out.new }
 {
@@ -70,7 +95,12 @@ fn put_object_line<K: Sink>(out: &mut Out, sink: &mut K, source: &Module, entry:
     out.put(sink, b"\n")
 }
 
-fn put_object_lines<K: Sink>(out: &mut Out, sink: &mut K, source: &Module, entries: &[(Name, Obj)]) -> Result<(), Failed>
+fn put_object_lines<K: Sink>(
+    out: &mut Out,
+    sink: &mut K,
+    source: &Module,
+    entries: &[(Name, Obj)],
+) -> Result<(), Failed>
     requires { out.old.failed ≡ false }
     ensures { Puts (K.taken sink.old) out.old (flat_map (object_line source.now) entries.now) result (K.taken sink.new) out.new }
 {
@@ -99,7 +129,12 @@ fn put_heap_head<K: Sink>(out: &mut Out, sink: &mut K, heap: &Heap) -> Result<()
 }
 
 /// Puts the numbers of objects, and a line for each.
-pub fn put_heap<K: Sink>(out: &mut Out, sink: &mut K, source: &Module, heap: &Heap) -> Result<(), Failed>
+pub fn put_heap<K: Sink>(
+    out: &mut Out,
+    sink: &mut K,
+    source: &Module,
+    heap: &Heap,
+) -> Result<(), Failed>
     requires { out.old.failed ≡ false }
     ensures { Puts (K.taken sink.old) out.old (heap_part source.now heap.now.objects) result (K.taken sink.new) out.new }
 {

@@ -7,7 +7,12 @@ use dl_ir::{Answer, End, Name, Refusal, Value};
 use dl_text::{Failed, Out, Sink};
 
 /// Puts two numbers with a dot between them.
-pub fn put_dotted<K: Sink>(out: &mut Out, sink: &mut K, first: u64, second: u32) -> Result<(), Failed>
+pub fn put_dotted<K: Sink>(
+    out: &mut Out,
+    sink: &mut K,
+    first: u64,
+    second: u32,
+) -> Result<(), Failed>
     requires { out.old.failed ≡ false }
     ensures { Puts (K.taken sink.old) out.old (dotted first second) result (K.taken sink.new) out.new }
 {
@@ -25,7 +30,12 @@ pub fn put_name<K: Sink>(out: &mut Out, sink: &mut K, name: Name) -> Result<(), 
 }
 
 /// Puts a word with a space behind it, a number and the end of the line.
-pub fn put_head<K: Sink>(out: &mut Out, sink: &mut K, word: &[u8], count: usize) -> Result<(), Failed>
+pub fn put_head<K: Sink>(
+    out: &mut Out,
+    sink: &mut K,
+    word: &[u8],
+    count: usize,
+) -> Result<(), Failed>
     requires { out.old.failed ≡ false }
     ensures { Puts (K.taken sink.old) out.old (head_line word.now count) result (K.taken sink.new) out.new }
 {
