@@ -1,0 +1,5 @@
+mod Counted
+mod Edits
+mod Entries
+mod NameOrder
+mod Search

@@ -1,4 +1,4 @@
-ghost use Rattle.std.specs.Prelude.{◌≡◌, [], ◌∷◌, ◌++◌, ◌<◌, ◌≤◌, length, slice_get, slice_set, ◌==◌};
+ghost use Rattle.std.specs.Prelude.{◌≡◌, [], ◌∷◌, ◌++◌, ◌<◌, ◌≤◌, length, slice_get, slice_set, ◌↔◌, IsTrue};
 ghost use Rattle.dl_ir.specs.Heap.{blank, blank_fields, blank_object};
 
 use crate::modules::{FieldDecl, KindDecl, Ty};
@@ -83,13 +83,13 @@ impl Fields {
     pub fn len(&self) -> usize
         ensures { result ≡ length self.now }
     {
-        self.len
+        self.as_slice().len()
     }
 
     pub fn is_empty(&self) -> bool
-        ensures { result ≡ (length self.now == 0) }
+        ensures { IsTrue result ↔ (self.now ≡ []) }
     {
-        self.len == 0
+        self.as_slice().is_empty()
     }
 
     pub fn as_slice(&self) -> &[Value]

@@ -1,0 +1,109 @@
+ghost use Rattle.std.specs.Prelude.{◌≡◌, ◌×◌, false, length, Option, filter, nat_lt};
+ghost use Rattle.std.specs.List.{flat_map, zip};
+ghost use Rattle.std.specs.FinMap as finite;
+ghost use Rattle.dl_ir.specs.Heap.{hidden_count};
+ghost use Rattle.dl_text.specs.Writing.{Puts};
+ghost use Rattle.dl_history.specs.Report.{field_text, seal_text, object_text, object_line, heap_head, heap_part};
+
+use crate::pieces::{put_name, put_value};
+use dl_ir::{FieldDecl, Heap, KindDecl, Module, Name, Obj, Value};
+use dl_text::{Failed, Out, Sink};
+
+fn put_field<K: Sink>(out: &mut Out, sink: &mut K, decl: &FieldDecl, value: Value) -> Result<(), Failed>
+    requires { out.old.failed ≡ false }
+    ensures { Puts (K.taken sink.old) out.old (field_text (decl.now, value)) result (K.taken sink.new) out.new }
+{
+    out.put(sink, b" ")?;
+    out.put(sink, decl.name.as_slice())?;
+    out.put(sink, b"=")?;
+    put_value(out, sink, value)
+}
+
+// Puts each field with its value.
+fn put_fields<K: Sink>(out: &mut Out, sink: &mut K, decls: &[FieldDecl], values: &[Value]) -> Result<(), Failed>
+    requires { out.old.failed ≡ false }
+    ensures { Puts (K.taken sink.old) out.old (flat_map field_text (zip decls.now values.now)) result (K.taken sink.new) out.new }
+{
+    'fields: for (decl, value) in decls.iter().zip(values) {
+        put_field(out, sink, decl, *value)?;
+    }
+    Ok(())
+}
+
+fn put_seal<K: Sink>(out: &mut Out, sink: &mut K, sealed: bool) -> Result<(), Failed>
+    requires { out.old.failed ≡ false }
+    ensures { Puts (K.taken sink.old) out.old (seal_text sealed) result (K.taken sink.new) out.new }
+{
+    if sealed {
+        out.put(sink, b" sealed")
+    } else {
+        out.put(sink, b"")
+    }
+}
+
+fn put_object_of<K: Sink>(out: &mut Out, sink: &mut K, object: &Obj, kind: &KindDecl) -> Result<(), Failed>
+    requires { out.old.failed ≡ false }
+    ensures { Puts (K.taken sink.old) out.old (object_text object.now (Some kind.now)) result (K.taken sink.new) out.new }
+{
+    out.put(sink, kind.name.as_slice())?;
+    put_seal(out, sink, object.sealed)?;
+    put_fields(out, sink, kind.fields.as_slice(), object.fields.as_slice())
+}
+
+fn put_object<K: Sink>(out: &mut Out, sink: &mut K, source: &Module, object: &Obj) -> Result<(), Failed>
+    requires { out.old.failed ≡ false }
+    ensures { Puts (K.taken sink.old) out.old (object_text object.now (slice_get source.now.kinds object.now.kind)) result (K.taken sink.new) out.new }
+{
+    match source.kinds.get(object.kind as usize) {
+        Some(kind) => put_object_of(out, sink, object, kind),
+        None => out.put(sink, b""),
+    }
+}
+
+fn put_object_line<K: Sink>(out: &mut Out, sink: &mut K, source: &Module, entry: &(Name, Obj)) -> Result<(), Failed>
+    requires { out.old.failed ≡ false }
+    ensures { Puts (K.taken sink.old) out.old (object_line source.now entry.now) result (K.taken sink.new) out.new }
+{
+    put_name(out, sink, entry.0)?;
+    out.put(sink, b" ")?;
+    put_object(out, sink, source, &entry.1)?;
+    out.put(sink, b"\n")
+}
+
+fn put_object_lines<K: Sink>(out: &mut Out, sink: &mut K, source: &Module, entries: &[(Name, Obj)]) -> Result<(), Failed>
+    requires { out.old.failed ≡ false }
+    ensures { Puts (K.taken sink.old) out.old (flat_map (object_line source.now) entries.now) result (K.taken sink.new) out.new }
+{
+    'objects: for entry in entries {
+        put_object_line(out, sink, source, entry)?;
+    }
+    Ok(())
+}
+
+// The number of hidden objects.
+fn count_hidden(entries: &[(Name, Obj)]) -> usize
+    ensures { result ≡ length (filter (λ (e : Name × Obj). nat_lt 0 e.0.ticket) entries.now) }
+{
+    entries.iter().filter(|entry| entry.0.ticket > 0).count()
+}
+
+fn put_heap_head<K: Sink>(out: &mut Out, sink: &mut K, heap: &Heap) -> Result<(), Failed>
+    requires { out.old.failed ≡ false }
+    ensures { Puts (K.taken sink.old) out.old (heap_head heap.now.objects) result (K.taken sink.new) out.new }
+{
+    let entries = heap.entries();
+    out.put(sink, b"heap ")?;
+    out.put_number(sink, entries.len())?;
+    out.put(sink, b" kept ")?;
+    out.put_number(sink, count_hidden(entries))
+}
+
+/// Puts the numbers of objects, and a line for each.
+pub fn put_heap<K: Sink>(out: &mut Out, sink: &mut K, source: &Module, heap: &Heap) -> Result<(), Failed>
+    requires { out.old.failed ≡ false }
+    ensures { Puts (K.taken sink.old) out.old (heap_part source.now heap.now.objects) result (K.taken sink.new) out.new }
+{
+    put_heap_head(out, sink, heap)?;
+    out.put(sink, b"\n")?;
+    put_object_lines(out, sink, source, heap.entries())
+}

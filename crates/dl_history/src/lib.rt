@@ -1,0 +1,13 @@
+//! The history of a run: its entries in the order of their tickets, and the report that is printed of it.
+//! `docs/FORMATS.md` has the form of the report.
+#![tactic(auto)]
+
+mod heaps;
+mod histories;
+mod operations;
+mod pieces;
+mod pool;
+mod reports;
+
+pub use histories::History;
+pub use reports::write_report;

@@ -1,0 +1,57 @@
+use Rattle.std.specs.Prelude.{◌≡◌, ◌≢◌, ◌&&◌, ℕ, Bool, true, false, List, [], ◌∷◌, ◌++◌, Some, None, map, if◌then◌else◌, is_some, option_map, string_bytes}
+use Rattle.dl_io.specs.Source.{Source}
+use Rattle.dl_io.specs.Taken.{Taken}
+use Rattle.dl_io.specs.declared.pieces.MemFile.{MemFile}
+use Rattle.dl_io.specs.declared.memory_files.MemFiles.{MemFiles}
+use Rattle.dl_io.specs.Files.{bytes_in, left_of}
+use Rattle.dl_io.specs.declared.memory_sink.MemSink.{MemSink}
+
+-- whether no call was named to fail
+abbrev pub is_reliable : List ℕ → Bool
+is_reliable [] = true
+is_reliable (call ∷ calls) = false
+
+-- where no call fails, each path that was added is sound, and else none is
+abbrev pub sound_paths_in : List ℕ → List MemFile → List (List ℕ)
+sound_paths_in fails files = if is_reliable fails then map (λ file. string_bytes file.path) files else []
+
+-- the numbers of the calls that fail
+abbrev pub fails_of : MemFiles → List ℕ
+fails_of files = files.fails.items
+
+-- what files in memory tell
+abbrev pub source_of : MemFiles → Source
+source_of files = let left = left_of files.files.items files.reading in record {
+  bytes_at = bytes_in files.files.items;
+  sound_paths = sound_paths_in files.fails.items files.files.items;
+  attached = option_map (λ reading. reading.file) files.reading;
+  is_sound = is_reliable files.fails.items && is_some left;
+  left = left;
+  given = files.given;
+  failed_last = files.failed_last;
+  faults = files.faults;
+}
+
+-- files in memory before any was added
+abbrev pub no_files : Source
+no_files = record {
+  bytes_at = λ _. None;
+  sound_paths = [];
+  attached = None;
+  is_sound = false;
+  left = None;
+  given = 0;
+  failed_last = None;
+  faults = 0;
+}
+
+-- a file is there that was not, sound where no call fails, and all else is as before
+pub record Adds (fails : List ℕ) (old new : Source) (path bytes : List ℕ) : Type 0 where
+  pub here : new.bytes_at path ≡ Some bytes
+  pub others : (q : List ℕ) → q ≢ path → new.bytes_at q ≡ old.bytes_at q
+  pub sound : new.sound_paths ≡ (if is_reliable fails then old.sound_paths ++ path ∷ [] else [])
+  pub rest : new ≡ record old { bytes_at = new.bytes_at; sound_paths = new.sound_paths }
+
+-- what a sink in memory tells
+abbrev pub taken_of : MemSink → Taken
+taken_of sink = record { written = Some sink.bytes.items; faults = sink.faults }

@@ -1,0 +1,73 @@
+-- What a binary search finds among sorted entries.
+use Rattle.std.proofs.Common.{◌≡◌, ℕ, zero, suc, ◌+◌, ◌<◌, ◌≤◌, Bool, true, false, List, [], ◌∷◌, length, get_or, refl, sym, ap, subst, ◌∙◌, T, Result, Ok, Err, IfOk, IfErr, inl, inr, arith}
+use Rattle.std.specs.List.Sorted.{IsSearchInRange, IsBinarySearchResult, IsNonDecreasingBy, IsPartitionPoint}
+use Rattle.std.specs.Ordering.{ordering_index}
+use Rattle.std.specs.declared.cmp.Ordering.{Ordering}
+use Rattle.std.specs.declared.cmp.Ordering.TheVariants.{Less, Equal, Greater}
+use Rattle.std.specs.FinMap.{is_sorted}
+use Rattle.std.specs.FinMap.Entries.{below_all}
+use Rattle.std.proofs.lemmas.Bool.{cases_lt}
+use Rattle.std.proofs.lemmas.Cmp.{alike_right}
+use Rattle.dl_ir.specs.declared.names.Name.{Name}
+use Rattle.dl_ir.specs.declared.objects.Obj.{Obj}
+use Rattle.dl_ir.specs.Heap.{name_cmp}
+use Rattle.dl_ir.specs.Places.{IsAt, IsGap}
+use Rattle.dl_ir.proofs.NameOrder.{names_total}
+use Rattle.dl_ir.proofs.Entries.{Held, first_of_both, second_of_both, is_less}
+
+-- a name below all is below each
+below_each : (x : Name) (es : Held) (at : ℕ) (d : Name × Obj) → T (below_all name_cmp x es) → at < length es → name_cmp x (get_or es at d).0 ≡ Less
+below_each x [] at d below within = absurd (omega arith)
+below_each x (e ∷ es) zero d below within = is_less _ (first_of_both _ _ below)
+below_each x (e ∷ es) (suc at) d below within = below_each x es at d (second_of_both _ _ below) (omega arith)
+
+-- earlier names are lesser
+earlier : (es : Held) (i j : ℕ) (d : Name × Obj) → T (is_sorted name_cmp es) → i < j → j < length es → name_cmp (get_or es i d).0 (get_or es j d).0 ≡ Less
+earlier [] i j d sorted before within = absurd (omega arith)
+earlier (e ∷ es) i zero d sorted before within = absurd (omega arith)
+earlier (e ∷ es) zero (suc j) d sorted before within = below_each e.0 es j d (first_of_both _ _ sorted) (omega arith)
+earlier (e ∷ es) (suc i) (suc j) d sorted before within = earlier es i j d (second_of_both _ _ sorted) (omega arith) (omega arith)
+
+at_most_two : (r : Ordering) → ordering_index r ≤ 2
+at_most_two Less = omega arith
+at_most_two Equal = omega arith
+at_most_two Greater = omega arith
+
+rises : (x y k : Name) → name_cmp x y ≡ Less → ordering_index (name_cmp x k) ≤ ordering_index (name_cmp y k)
+rises x y k less =
+    elim (name_cmp y k) as (λ r. name_cmp y k ≡ r → ordering_index (name_cmp x k) ≤ ordering_index r) [
+      | Less ↦ λ is. subst (λ r. ordering_index r ≤ 0) (sym (names_total.trans x y k less is)) (omega arith)
+      | Equal ↦ λ is. subst (λ r. ordering_index r ≤ 1) (sym less ∙ alike_right names_total y k x is) (omega arith)
+      | Greater ↦ λ is. at_most_two _
+    ] refl
+
+-- so the comparisons with a name rise along the entries
+comparisons_rise : (k : Name) (es : Held) → T (is_sorted name_cmp es) → IsNonDecreasingBy (λ (e : Name × Obj). ordering_index (name_cmp e.0 k)) es
+comparisons_rise k es sorted i j d le within =
+    let index = λ (at : ℕ). ordering_index (name_cmp (get_or es at d).0 k) in
+    elim (cases_lt i j) [
+      | inl before ↦ rises _ _ k (earlier es i j d sorted before within)
+      | inr behind ↦ let same : i ≡ j = omega arith in subst (λ at. index i ≤ index at) same (omega arith)
+    ]
+
+-- an entry that ties is at its place
+is_at : (k : Name) (es : Held) (at : ℕ) (d : Name × Obj) → T (is_sorted name_cmp es) → at < length es → name_cmp (get_or es at d).0 k ≡ Equal → IsAt k es at
+is_at k [] at d sorted within tied = absurd (omega arith)
+is_at k (e ∷ es) zero d sorted within tied = tied
+is_at k (e ∷ es) (suc at) d sorted within tied =
+    let before = below_each e.0 es at d (first_of_both _ _ sorted) (omega arith) in
+    (sym (alike_right names_total _ k e.0 tied) ∙ before, is_at k es at d (second_of_both _ _ sorted) (omega arith) tied)
+
+-- where those before are less and those behind greater there is a gap
+is_gap : (k : Name) (es : Held) (at : ℕ) → at ≤ length es → IsPartitionPoint (λ (e : Name × Obj). name_cmp e.0 k ≡ Less) (λ (e : Name × Obj). name_cmp e.0 k ≡ Greater) es at → IsGap k es at
+is_gap k [] zero within parted = tt
+is_gap k [] (suc at) within parted = absurd (omega arith)
+is_gap k (e ∷ es) zero within parted = parted.1 zero e (omega arith) (omega arith)
+is_gap k (e ∷ es) (suc at) within parted =
+    (parted.0 zero e (omega arith) (omega arith), is_gap k es at (omega arith) ((λ j d le lt. parted.0 (suc j) d (omega arith) (omega arith)), (λ j d le lt. parted.1 (suc j) d (omega arith) (omega arith))))
+
+-- a binary search ends at the name, or at its gap
+pub searched : (k : Name) (es : Held) (r : Result ℕ ℕ) → T (is_sorted name_cmp es) → IsSearchInRange r (length es) → IsBinarySearchResult (λ (e : Name × Obj). name_cmp e.0 k) es r → IfOk r (IsAt k es) × IfErr r (IsGap k es)
+searched k [] (Ok at) sorted within equal = absurd (omega arith)
+searched k (e ∷ es) (Ok at) sorted within equal = (is_at k (e ∷ es) at e sorted within (equal e), tt)
+searched k es (Err at) sorted within parted = (tt, is_gap k es at within (parted (comparisons_rise k es sorted)))

@@ -1,0 +1,9 @@
+use Rattle.std.proofs.Common.{[], length, refl, ap, ◌∙◌}
+use Rattle.std.specs.FinMap as map
+use Rattle.std.specs.FinMap.{len-entries, entries-from_sorted, empty_of_len}
+use Rattle.dl_ir.specs.Heap.{name_cmp}
+use Rattle.dl_ir.proofs.Edits.{made}
+use Rattle.dl_ir.proofs.heaps.Heap.new.Goals as goal
+
+pub returns : goal.returns
+returns c = rw c.in_ok-with_capacity.ensures.items (ap (λ objects. record { objects = objects; room = c.args.room }) (empty_of_len (made []) (len-entries (made []) ∙ ap length (entries-from_sorted name_cmp [] tt))))

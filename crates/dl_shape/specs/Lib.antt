@@ -1,0 +1,6 @@
+pub mod References
+pub mod Settling
+pub mod Operation
+pub mod Replay
+pub mod Pool
+pub mod Closed
