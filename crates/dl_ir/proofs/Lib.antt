@@ -1,5 +1,5 @@
 mod Counted
 mod Edits
 mod Entries
-mod NameOrder
+pub mod NameOrder
 mod Search

@@ -1,12 +1,10 @@
 //! Running operations one after another, as their meaning says.
 #![tactic(auto)]
 
-ghost use Rattle.std.specs.Prelude.{◌≡◌};
+mod frames;
+mod numbers;
+mod run;
+mod steps;
 
-use dl_ir::Op;
-
-pub fn same(op: Op) -> Op
-    ensures { result ≡ op }
-{
-    op
-}
+pub use frames::{Frame, Task};
+pub use run::run_block;

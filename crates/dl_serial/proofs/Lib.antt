@@ -1,0 +1,3 @@
+mod Levels
+mod Sizes
+mod Turns
