@@ -2,4 +2,7 @@ mod Counted
 mod Edits
 mod Entries
 pub mod NameOrder
+mod Sealing
+mod StartHeap
+mod Starts
 mod Search

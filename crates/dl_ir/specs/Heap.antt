@@ -1,5 +1,5 @@
 -- Heaps: what they are, how one begins, and which heaps a module has.
-use Rattle.std.specs.Prelude.{◌≡◌, ℕ, suc, zero, ◌+◌, ◌<◌, ◌≤◌, pos, Bool, true, false, IsTrue, List, [], ◌∷◌, ◌++◌, map, length, filter, nat_lt, slice_get, slice_set, Option, Some, None}
+use Rattle.std.specs.Prelude.{◌≡◌, ℕ, suc, zero, ◌+◌, ◌<◌, ◌≤◌, pos, true, false, List, [], ◌∷◌, ◌++◌, map, length, filter, nat_lt, slice_get, slice_set, Option, Some, None}
 use Rattle.std.specs.List.{AllByRecursion}
 use Rattle.std.specs.Ordering.{nat_cmp, ordering_then}
 use Rattle.std.specs.declared.cmp.Ordering.{Ordering}
@@ -75,10 +75,10 @@ roots_of kind (declared ∷ kinds) = roots_from declared.first declared.count (b
 abbrev pub start_objects : Module → Objects
 start_objects m = from_entries (roots_of 0 m.kinds)
 
--- A root kind has its roots from this number on, and a node kind has none.
+-- A root kind has its roots from this number on. A node kind has none, and its first number is 0.
 pub record HasRootsAt (next : ℕ) (declared : KindDecl) : Type 0 where
   pub of_root : declared.is_root ≡ true → declared.first ≡ next
-  pub of_node : declared.is_root ≡ false → declared.count ≡ 0
+  pub of_node : declared.is_root ≡ false → (declared.first ≡ 0) × (declared.count ≡ 0)
 
 -- The roots of the kinds stand in one row from this number on, in the order of declaration, below 1,024.
 abbrev pub StandInRow : ℕ → List KindDecl → Type 0

@@ -3,7 +3,7 @@ ghost use Rattle.std.specs.Option.{option_copied};
 ghost use Rattle.std.specs.List.{AllByRecursion};
 ghost use Rattle.std.specs.FinMap as map;
 ghost use Rattle.dl_ir.specs.Heap.{name_cmp, with_field, blank_object, roots_from, roots_of, start_objects, StandInRow, HasStart, IsHeapOf};
-ghost use Rattle.dl_ir.specs.Marks.{seal_marked, seal_each};
+ghost use Rattle.dl_ir.specs.Marks.{seal_marked, seal_each, sealed_if};
 ghost use Rattle.dl_ir.specs.Places.{IsAt, IsGap};
 ghost use Rattle.dl_ir.specs.declared.modules.KindDecl.{KindDecl};
 ghost use Rattle.dl_ir.specs.declared.names.Name.{Name};
@@ -55,10 +55,10 @@ impl Heap {
         ensures start { IfOk result (λ h. h ≡ record { objects = start_objects declared.now; room = map.len (start_objects declared.now) + places }) }
         ensures of_module { IfOk result (λ h. IsHeapOf declared.now h.objects) }
     {
-        let kinds = declared.kinds.as_slice();
-        let room = root_count(kinds) + places as usize;
-        let mut entries = Vec::with_capacity(alloc, room)?;
-        add_roots(kinds, &mut entries)?;
+        let mut entries = Vec::new(alloc);
+        add_roots(declared.kinds.as_slice(), &mut entries)?;
+        entries.reserve(places as usize)?;
+        let room = entries.len() + places as usize;
         Ok(Heap { entries, room })
     }
 
@@ -131,8 +131,9 @@ impl Heap {
         self.room <= self.entries.len()
     }
 
-    /// Seals the objects that are marked, the first mark being that of the least name.
+    /// Seals the objects that are marked, with one mark for each object, in the order of names.
     pub fn seal_marked(&mut self, marks: &[bool])
+        requires { length marks.now ≡ map.len self.old.objects }
         ensures { self.new ≡ record self.old { objects = seal_marked self.old.objects marks.now } }
     {
         seal_each_marked(&mut self.entries, marks);
@@ -159,26 +160,22 @@ fn set_at(entries: &mut Vec<(Name, Obj)>, at: usize, field: usize, value: Value)
 
 // Seals the objects that are marked, the first mark being that of the first entry.
 fn seal_each_marked(entries: &mut Vec<(Name, Obj)>, marks: &[bool])
+    requires { length marks.now ≡ length entries.old.items }
     ensures items { entries.new.items ≡ seal_each entries.old.items marks.now }
     ensures capacity { vec_capacity entries.new ≡ vec_capacity entries.old }
 {
-    for at in 0..entries.len() {
-        if at < marks.len() {
-            entries[at].1.sealed |= marks[at];
-        }
+    for (at, mark) in marks.iter().enumerate() {
+        seal_at(entries, at, *mark);
     }
 }
 
-// The number of roots of the kinds.
-fn root_count(kinds: &[KindDecl]) -> usize
-    requires { StandInRow 0 kinds.now }
-    ensures { result ≡ length (roots_of 0 kinds.now) }
+// Seals the object at a place if it is marked.
+fn seal_at(entries: &mut Vec<(Name, Obj)>, at: usize, mark: bool)
+    requires { at < length entries.old.items }
+    ensures sealed { (e : Name × Obj) → slice_get entries.old.items at ≡ Some e → entries.new.items ≡ slice_set entries.old.items at (e.0, sealed_if mark e.1) }
+    ensures capacity { vec_capacity entries.new ≡ vec_capacity entries.old }
 {
-    let mut count = 0;
-    for declared in kinds {
-        count += declared.count as usize;
-    }
-    count
+    entries[at].1.sealed |= mark;
 }
 
 // Adds the roots of the kinds, in order.
@@ -186,8 +183,7 @@ fn add_roots(kinds: &[KindDecl], entries: &mut Vec<(Name, Obj)>) -> Result<(), A
     requires few_kinds { length kinds.now ≤ 16 }
     requires few_fields { AllByRecursion (λ (k : KindDecl). length k.fields ≤ 16) kinds.now }
     requires row { StandInRow 0 kinds.now }
-    ensures items { OnOk result (entries.new.items ≡ entries.old.items ++ roots_of 0 kinds.now) }
-    ensures capacity { vec_capacity entries.old ≤ vec_capacity entries.new }
+    ensures { OnOk result (entries.new.items ≡ entries.old.items ++ roots_of 0 kinds.now) }
 {
     for (kind, declared) in kinds.iter().enumerate() {
         add_roots_of(kind as u32, declared, entries)?;
@@ -203,8 +199,7 @@ fn add_roots_of(
 ) -> Result<(), AllocError>
     requires few_fields { length declared.now.fields ≤ 16 }
     requires numbers { declared.now.first + declared.now.count < 2 ^ 32 }
-    ensures items { OnOk result (entries.new.items ≡ entries.old.items ++ roots_from declared.now.first declared.now.count (blank_object kind declared.now)) }
-    ensures capacity { vec_capacity entries.old ≤ vec_capacity entries.new }
+    ensures { OnOk result (entries.new.items ≡ entries.old.items ++ roots_from declared.now.first declared.now.count (blank_object kind declared.now)) }
 {
     for i in 0..declared.count {
         let name = Name {
