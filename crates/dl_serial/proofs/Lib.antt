@@ -1,3 +1,4 @@
 mod Levels
+mod RootNumbers
 mod Sizes
 mod Turns

@@ -3,8 +3,9 @@
 
 mod frames;
 mod numbers;
+mod operations;
 mod run;
+mod scratch_settle;
 mod steps;
 
-pub use frames::{Frame, Task};
-pub use run::run_block;
+pub use operations::run_op;

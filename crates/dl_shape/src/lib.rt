@@ -1,3 +1,4 @@
-//! The shape of a heap: what refers to an object, whether a heap is a forest, and how it is settled when an
-//! operation has ended. What an operation, a replay and a pool log mean is defined here too, in `specs/`.
+//! Scratch.
 #![tactic(auto)]
+
+pub fn nothing() {}
