@@ -1,3 +1,4 @@
+mod Counts
 mod Levels
 mod RootNumbers
 mod Sizes

@@ -1,3 +1,4 @@
 pub mod Arguments
 pub mod Frames
+pub mod Growth
 pub mod Rooms

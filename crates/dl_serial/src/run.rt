@@ -1,7 +1,8 @@
-ghost use Rattle.std.specs.Prelude.{◌≡◌, ◌≤◌};
+ghost use Rattle.std.specs.Prelude.{◌≡◌, ◌<◌, ◌≤◌};
 ghost use Rattle.dl_ir.specs.Heap.{HasStart};
 ghost use Rattle.dl_ir.specs.Meaning.{does, block_does, loops};
 ghost use Rattle.dl_serial.specs.Frames.{state_of, context_of, HasRoom};
+ghost use Rattle.dl_serial.specs.Growth.{Grows};
 
 use crate::frames::{Frame, Task};
 use crate::numbers::{evaluate, target_at, test};
@@ -12,11 +13,13 @@ use dl_ir::{Block, Cond, End, Heap, Module, Stmt};
 #[cycle(run)]
 pub fn run_stmt(source: &Module, task: Task, s: &Stmt, frame: &mut Frame, heap: &mut Heap) -> Option<End>
     requires start { HasStart source.now }
+    requires ticket { 0 < task.ticket }
     requires room { HasRoom task frame.old heap.old }
     ensures gives { does (context_of source.now task) s.now (state_of frame.old heap.old) ≡ record { state = state_of frame.new heap.new; end = result } }
     ensures turns { frame.new.turns ≤ frame.old.turns }
     ensures room { HasRoom task frame.new heap.new }
     ensures same_room { heap.new.room ≡ heap.old.room }
+    ensures grows { Grows heap.old.objects heap.new.objects frame.old.made frame.new.made }
 {
     match s {
         Stmt::SetInt { x, e } => run_set_int(*x, e, frame, heap),
@@ -54,11 +57,13 @@ pub fn run_stmt(source: &Module, task: Task, s: &Stmt, frame: &mut Frame, heap: 
 #[cycle(run)]
 pub fn run_block(source: &Module, task: Task, block: &Block, frame: &mut Frame, heap: &mut Heap) -> Option<End>
     requires start { HasStart source.now }
+    requires ticket { 0 < task.ticket }
     requires room { HasRoom task frame.old heap.old }
     ensures gives { block_does (context_of source.now task) block.now (state_of frame.old heap.old) ≡ record { state = state_of frame.new heap.new; end = result } }
     ensures turns { frame.new.turns ≤ frame.old.turns }
     ensures room { HasRoom task frame.new heap.new }
     ensures same_room { heap.new.room ≡ heap.old.room }
+    ensures grows { Grows heap.old.objects heap.new.objects frame.old.made frame.new.made }
 {
     for s in block.as_slice() {
         let end = run_stmt(source, task, s, frame, heap);
@@ -73,11 +78,13 @@ pub fn run_block(source: &Module, task: Task, block: &Block, frame: &mut Frame, 
 #[cycle(run)]
 pub fn run_loop(source: &Module, task: Task, c: &Cond, body: &Block, frame: &mut Frame, heap: &mut Heap) -> Option<End>
     requires start { HasStart source.now }
+    requires ticket { 0 < task.ticket }
     requires room { HasRoom task frame.old heap.old }
     ensures gives { loops frame.old.turns c.now (block_does (context_of source.now task) body.now) (state_of frame.old heap.old) ≡ record { state = state_of frame.new heap.new; end = result } }
     ensures turns { frame.new.turns ≤ frame.old.turns }
     ensures room { HasRoom task frame.new heap.new }
     ensures same_room { heap.new.room ≡ heap.old.room }
+    ensures grows { Grows heap.old.objects heap.new.objects frame.old.made frame.new.made }
 {
     while frame.turns > 0 {
         frame.turns -= 1;

@@ -1,9 +1,10 @@
-ghost use Rattle.std.specs.Prelude.{◌≡◌, ◌≤◌, ◌+◌, None, if◌then◌else◌, is_none, slice_get, slice_set, option_and_then};
+ghost use Rattle.std.specs.Prelude.{◌≡◌, ◌<◌, ◌≤◌, ◌+◌, None, if◌then◌else◌, is_none, slice_get, slice_set, option_and_then};
 ghost use Rattle.std.specs.FinMap as finite;
 ghost use Rattle.dl_ir.specs.Heap.{HasStart};
 ghost use Rattle.dl_ir.specs.Meaning.{Context, State, Outcome, fault_end, object_of, step, is_sealed, unless_sealed, links_to};
 ghost use Rattle.dl_ir.specs.Evaluation.{number_of, target_of};
 ghost use Rattle.dl_serial.specs.Frames.{state_of, context_of, HasRoom};
+ghost use Rattle.dl_serial.specs.Growth.{Grows};
 ghost use Rattle.dl_ir.specs.declared.statements.Stmt.{Stmt-F};
 ghost use Rattle.dl_ir.specs.declared.objects.Obj.{Obj};
 
@@ -94,6 +95,7 @@ fn number_held(held: Option<Value>) -> i64
 pub fn run_store(p: u32, f: u32, e: &Expr, frame: &Frame, heap: &mut Heap) -> Option<End>
     ensures gives { (cx : Context) → step cx (Stmt-F.Store p f e.now) (state_of frame.now heap.old) ≡ record { state = state_of frame.now heap.new; end = result } }
     ensures len { finite.len heap.new.objects ≡ finite.len heap.old.objects }
+    ensures grows { Grows heap.old.objects heap.new.objects 0 0 }
     ensures room { heap.new.room ≡ heap.old.room }
 {
     match evaluate(e, &frame.locals) {
@@ -149,11 +151,13 @@ pub fn run_follow(p: u32, q: u32, f: u32, frame: &mut Frame, heap: &Heap) -> Opt
 /// `p = new K;`
 pub fn run_new(source: &Module, task: Task, p: u32, kind: u32, frame: &mut Frame, heap: &mut Heap) -> Option<End>
     requires start { HasStart source.now }
+    requires ticket { 0 < task.ticket }
     requires room { HasRoom task frame.old heap.old }
     ensures gives { step (context_of source.now task) (Stmt-F.New p kind) (state_of frame.old heap.old) ≡ record { state = state_of frame.new heap.new; end = result } }
     ensures turns { frame.new.turns ≡ frame.old.turns }
     ensures room { HasRoom task frame.new heap.new }
     ensures same_room { heap.new.room ≡ heap.old.room }
+    ensures grows { Grows heap.old.objects heap.new.objects frame.old.made frame.new.made }
 {
     if frame.made >= task.allocs {
         return Some(End::Quota);
@@ -172,6 +176,7 @@ pub fn run_new(source: &Module, task: Task, p: u32, kind: u32, frame: &mut Frame
 pub fn run_link(q: u32, f: u32, target: Option<Name>, frame: &Frame, heap: &mut Heap) -> Option<End>
     ensures gives { links_to q f target (state_of frame.now heap.old) ≡ record { state = state_of frame.now heap.new; end = result } }
     ensures len { finite.len heap.new.objects ≡ finite.len heap.old.objects }
+    ensures grows { Grows heap.old.objects heap.new.objects 0 0 }
     ensures room { heap.new.room ≡ heap.old.room }
 {
     match target_at(&frame.locals, q) {

@@ -2,6 +2,7 @@ use Rattle.std.proofs.Common.{arith, sym, ap, ◌∙◌, Ok, None}
 use Rattle.dl_serial.specs.Frames.{state_of, context_of}
 use Rattle.dl_ir.specs.Meaning.{block_does}
 use Rattle.dl_ir.specs.declared.statements.Stmt.TheVariants.{outs-SetInt, outs-Load, outs-Store, outs-Copy, outs-Null, outs-Follow}
+use Rattle.dl_serial.proofs.Counts.{grows_on}
 use Rattle.dl_serial.proofs.Levels.{one_level}
 use Rattle.dl_serial.proofs.Turns.{turn, is_none_of}
 use Rattle.dl_serial.proofs.run.+run.Goals as goal
@@ -18,6 +19,7 @@ run_loop-loop-frame-preserved t c =
       turns = omega arith;
       room = c.run_block-end.ensures.room;
       same_room = c.run_block-end.ensures.same_room ∙ c.loop-frame.invariant.same_room;
+      grows = grows_on c.loop-frame.invariant.grows c.run_block-end.ensures.grows;
     }
 
 pub run_stmt-returns-in-SetInt-clause-gives : goal.run_stmt-returns-in-SetInt-clause-gives

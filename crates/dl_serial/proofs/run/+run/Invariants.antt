@@ -1,6 +1,7 @@
 use Rattle.std.proofs.Common.{◌≡◌, ◌≤◌, ℕ, drop, map}
 use Rattle.dl_ir.specs.Meaning.{does, block_does, loops, in_turn}
 use Rattle.dl_serial.specs.Frames.{state_of, context_of, HasRoom}
+use Rattle.dl_serial.specs.Growth.{Grows}
 use Rattle.dl_serial.proofs.run.+run.Given as goal
 
 abbrev pub invariant-run_block-loop-s : goal.invariant-run_block-loop-s
@@ -9,6 +10,7 @@ invariant-run_block-loop-s l = record {
   turns : l.frame.turns ≤ l.fn.frame.turns;
   room : HasRoom l.task l.frame l.heap;
   same_room : l.heap.room ≡ l.fn.heap.room;
+  grows : Grows l.fn.heap.objects l.heap.objects l.fn.frame.made l.frame.made;
 }
 
 abbrev pub invariant-run_loop-loop-frame : goal.invariant-run_loop-loop-frame
@@ -17,6 +19,7 @@ invariant-run_loop-loop-frame l = record {
   turns : l.frame.turns ≤ l.fn.frame.turns;
   room : HasRoom l.task l.frame l.heap;
   same_room : l.heap.room ≡ l.fn.heap.room;
+  grows : Grows l.fn.heap.objects l.heap.objects l.fn.frame.made l.frame.made;
 }
 
 abbrev pub decreases-run_loop-loop-frame : goal.decreases-run_loop-loop-frame
