@@ -1,19 +1,23 @@
 -- how the numbers of objects and of hidden objects change with a heap
 use Rattle.std.proofs.Common.{◌≡◌, ℕ, zero, suc, ◌+◌, ◌-◌, ◌<◌, ◌≤◌, Bool, true, false, cond, List, [], ◌∷◌, length, map, filter, refl, sym, ap, subst, ◌∙◌, Option, Some, None, is_some, arith, T}
-use Rattle.std.specs.Prelude.{nat_lt, slice_set}
+use Rattle.std.specs.Prelude.{nat_lt, slice_set, find, ◌&&◌}
 use Rattle.std.proofs.lemmas.Bool.{lt-ltb}
 use Rattle.std.specs.Cmp.{Equal-is}
-use Rattle.std.specs.Ordering.{is_eq, eq_by_cmp}
+use Rattle.std.specs.Ordering.{is_eq, is_lt, eq_by_cmp}
 use Rattle.std.specs.declared.cmp.Ordering.TheVariants.{Less, Equal, Greater}
 use Rattle.std.specs.FinMap as finite
-use Rattle.std.specs.FinMap.{get-remove, get-insert, entries-insert, get-entries, same_map, put, len-insert}
-use Rattle.std.specs.FinMap.Entries.{by_order}
+use Rattle.std.specs.FinMap.{get-remove, get-insert, entries-insert, get-entries, same_map, put, len-insert, is_sorted, entries-from_sorted, entries_sorted, len-entries}
+use Rattle.std.specs.FinMap.Entries.{by_order, below_all}
+use Rattle.std.specs.Option.{option_map}
 use Rattle.std.proofs.lemmas.Cmp.{tied_itself}
+use Rattle.std.proofs.lemmas.List.{length-map}
+use Rattle.std.proofs.lemmas.Option.{none-some}
 use Rattle.dl_ir.specs.declared.names.Name.{Name}
 use Rattle.dl_ir.specs.declared.names.Value.{Value}
 use Rattle.dl_ir.specs.declared.objects.Obj.{Obj}
 use Rattle.dl_ir.specs.Heap.{Objects, name_cmp, hidden_count, with_field, with_field_of}
 use Rattle.dl_ir.proofs.NameOrder.{names_total, exact_names}
+use Rattle.dl_shape.specs.Settling.{is_loose, first_name, without, trim_by, trim, sealed_entry, sealed_heap, settled}
 use Rattle.dl_serial.specs.Growth.{Grows}
 
 -- the entries of a heap
@@ -96,18 +100,15 @@ len-there h k v w is = len-insert names_total h k w ∙ ap (λ (r : Option Obj).
 len-taken : (h : Objects) (k : Name) (v : Obj) → finite.get h k ≡ Some v → finite.len h ≡ finite.len (finite.remove h k) + 1
 len-taken h k v is = ap finite.len (sym (same_put h k v is) ∙ sym (put_over h k v)) ∙ len-new (finite.remove h k) k v (gone h k)
 
--- the name is that of a hidden object, or not
-one_or_none : (k : Name) → one k ≤ 1
-one_or_none k = elim (nat_lt 0 k.ticket) as (λ b. cond b 1 0 ≤ 1) [ true ↦ omega arith | false ↦ omega arith ]
-
--- a removal leaves no more objects than it takes
-pub grows-remove : (h : Objects) (k : Name) (made : ℕ) → Grows h (finite.remove h k) made made
-grows-remove h k made =
-    elim (finite.get h k) as (λ r. finite.get h k ≡ r → Grows h (finite.remove h k) made made) [
-      | None ↦ λ none. subst (λ (g : Objects). Grows h g made made) (sym (same_without h k none)) (record { hidden = omega arith; roots = omega arith })
+-- the removal of a hidden object, if it is there
+pub grows-remove : (h : Objects) (k : Name) → nat_lt 0 k.ticket ≡ true → Grows h (finite.remove h k) 0 0
+grows-remove h k hidden =
+    let is_one : one k ≡ 1 = ap (λ b. cond b 1 0) hidden in
+    elim (finite.get h k) as (λ r. finite.get h k ≡ r → Grows h (finite.remove h k) 0 0) [
+      | None ↦ λ none. subst (λ (g : Objects). Grows h g 0 0) (sym (same_without h k none)) (record { hidden = omega arith; roots = omega arith })
       | Some v ↦ λ is. record {
-        hidden = omega (arith, hidden_count-there h k v is, one_or_none k);
-        roots = omega (arith, hidden_count-there h k v is, one_or_none k, len-taken h k v is);
+        hidden = omega (arith, hidden_count-there h k v is, is_one);
+        roots = omega (arith, hidden_count-there h k v is, is_one, len-taken h k v is);
       }
     ] refl
 
@@ -140,3 +141,66 @@ grows-put h name object made hidden =
 -- one change after another
 pub grows_on : {a b c : Objects} {i j k : ℕ} → Grows a b i j → Grows b c j k → Grows a c i k
 grows_on first second = record { hidden = omega arith; roots = omega arith }
+
+-- the first of two tests
+both_first : (a b : Bool) → a && b ≡ true → a ≡ true
+both_first true b is = refl
+both_first false b is = is
+
+-- what a search finds passes its test
+find_passes : (test : Name × Obj → Bool) (es : Held) (e : Name × Obj) → find test es ≡ Some e → test e ≡ true
+find_passes test [] e is = absurd (none-some e is)
+find_passes test (d ∷ es) e =
+    elim (test d) as (λ b. test d ≡ b → cond b (Some d) (find test es) ≡ Some e → test e ≡ true) [
+      | true ↦ λ t is. let same : d ≡ e = cc in subst (λ (x : Name × Obj). test x ≡ true) same t
+      | false ↦ λ t is. find_passes test es e is
+    ] refl
+
+-- a loose object is hidden
+loose_hidden : (g h : Objects) (k : Name) → first_name (is_loose g) h ≡ Some k → nat_lt 0 k.ticket ≡ true
+loose_hidden g h k =
+    elim (find (is_loose g) (finite.entries h)) as (λ r. find (is_loose g) (finite.entries h) ≡ r → option_map (λ (e : Name × Obj). e.0) r ≡ Some k → nat_lt 0 k.ticket ≡ true) [
+      | None ↦ λ _ is. absurd (none-some k is)
+      | Some e ↦ λ found is.
+          let same : e.0 ≡ k = cc in
+          subst (λ (n : Name). nat_lt 0 n.ticket ≡ true) same (both_first _ _ (both_first _ _ (find_passes (is_loose g) (finite.entries h) e found)))
+    ] refl
+
+-- trimming
+grows-trim_by : (count : ℕ) (h : Objects) → Grows h (trim_by count h) 0 0
+grows-trim_by zero h = record { hidden = omega arith; roots = omega arith }
+grows-trim_by (suc count) h =
+    elim (first_name (is_loose h) h) as (λ r. first_name (is_loose h) h ≡ r → Grows h (without r h (trim_by count)) 0 0) [
+      | None ↦ λ _. record { hidden = omega arith; roots = omega arith }
+      | Some k ↦ λ is. grows_on (grows-remove h k (loose_hidden h h k is)) (grows-trim_by count (finite.remove h k))
+    ] refl
+
+-- sealing keeps the names and their order
+below-sealed : (g : Objects) (x : Name) (es : Held) → below_all name_cmp x (map (sealed_entry g) es) ≡ below_all name_cmp x es
+below-sealed g x [] = refl
+below-sealed g x (e ∷ es) = ap (λ b. is_lt (name_cmp x e.0) && b) (below-sealed g x es)
+
+sorted-sealed : (g : Objects) (es : Held) → is_sorted name_cmp (map (sealed_entry g) es) ≡ is_sorted name_cmp es
+sorted-sealed g [] = refl
+sorted-sealed g (e ∷ es) = λ i. below-sealed g e.0 es i && sorted-sealed g es i
+
+hidden_in-sealed : (g : Objects) (es : Held) → hidden_in (map (sealed_entry g) es) ≡ hidden_in es
+hidden_in-sealed g [] = refl
+hidden_in-sealed g (e ∷ es) = hidden_in-cons (sealed_entry g e) (map (sealed_entry g) es) ∙ ap (λ n. one e.0 + n) (hidden_in-sealed g es) ∙ sym (hidden_in-cons e es)
+
+grows-sealed : (h : Objects) → Grows h (sealed_heap h) 0 0
+grows-sealed h =
+    let made : finite.entries (sealed_heap h) ≡ map (sealed_entry h) (finite.entries h)
+          = entries-from_sorted name_cmp _ (subst T (sym (sorted-sealed h (finite.entries h))) (entries_sorted h)) in
+    let same_hidden : hidden_count (sealed_heap h) ≡ hidden_count h = ap hidden_in made ∙ hidden_in-sealed h (finite.entries h) in
+    let same_len : finite.len (sealed_heap h) ≡ finite.len h
+          = len-entries (sealed_heap h) ∙ ap length made ∙ length-map (finite.entries h) (sealed_entry h) ∙ sym (len-entries h) in
+    record { hidden = omega (arith, same_hidden); roots = omega (arith, same_hidden, same_len) }
+
+-- settling
+pub grows-settled : (h : Objects) → Grows h (settled h) 0 0
+grows-settled h = grows_on (grows-trim_by (finite.len h) h) (grows-sealed (trim h))
+
+-- an operation: its body, and then settling
+pub grows-operation : {a b c : Objects} {made allocs : ℕ} → Grows a b 0 made → Grows b c 0 0 → made ≤ allocs → Grows a c 0 allocs
+grows-operation body settling within = record { hidden = omega arith; roots = omega arith }

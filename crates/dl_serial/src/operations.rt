@@ -1,11 +1,12 @@
-ghost use Rattle.std.specs.Prelude.{◌≡◌, ◌+◌, ◌≤◌, ℤ, IfOk, OnOk, map};
+ghost use Rattle.std.specs.Prelude.{◌≡◌, ◌+◌, ◌<◌, ◌≤◌, ℤ, IfOk, OnOk, map};
 ghost use Rattle.std.specs.List.{zip};
 ghost use Rattle.std.specs.FinMap as finite;
 ghost use Rattle.dl_ir.specs.declared.modules.LocalDecl.{LocalDecl};
 ghost use Rattle.dl_ir.specs.CallForms.{AllFit, IsCallOf};
 ghost use Rattle.dl_ir.specs.Heap.{HasStart, blank};
 ghost use Rattle.dl_serial.specs.Arguments.{CanHold, AllHeld};
-ghost use Rattle.dl_serial.specs.Rooms.{HasRoomFor};
+ghost use Rattle.dl_serial.specs.Growth.{Grows};
+ghost use Rattle.dl_serial.specs.Rooms.{HasRoomFor, allocs_of};
 ghost use Rattle.dl_shape.specs.Operation.{argument_value as value_given, first_locals as locals_first, body_outcome, result_of, operated};
 
 use crate::frames::{Frame, Task};
@@ -19,9 +20,11 @@ use std::alloc::{AllocError, Global};
 pub fn run_op(alloc: Global, source: &Module, heap: &mut Heap, ticket: u64, call: &Call) -> Result<Answer, AllocError>
     requires start { HasStart source.now }
     requires of_module { IsCallOf source.now call.now }
+    requires ticket { 0 < ticket }
     requires room { HasRoomFor source.now call.now heap.old }
     ensures answer { IfOk result (λ answer. answer ≡ (operated source.now heap.old.objects ticket call.now).answer) }
     ensures left { OnOk result (heap.new ≡ record heap.old { objects = (operated source.now heap.old.objects ticket call.now).objects }) }
+    ensures grows { OnOk result (Grows heap.old.objects heap.new.objects 0 (allocs_of source.now call.now)) }
 {
     match source.ops.get(call.op as usize) {
         Some(op) => run_body(alloc, source, heap, ticket, op, call.args.as_slice()),
@@ -33,9 +36,11 @@ pub fn run_op(alloc: Global, source: &Module, heap: &mut Heap, ticket: u64, call
 fn run_body(alloc: Global, source: &Module, heap: &mut Heap, ticket: u64, op: &OpDecl, args: &[i64]) -> Result<Answer, AllocError>
     requires start { HasStart source.now }
     requires fits { AllFit source.now op.now.params args.now }
+    requires ticket { 0 < ticket }
     requires room { finite.len heap.old.objects + op.now.allocs ≤ heap.old.room }
     ensures answer { IfOk result (λ answer. answer ≡ (result_of (body_outcome source.now heap.old.objects ticket args.now op.now)).answer) }
     ensures left { OnOk result (heap.new ≡ record heap.old { objects = (result_of (body_outcome source.now heap.old.objects ticket args.now op.now)).objects }) }
+    ensures grows { OnOk result (Grows heap.old.objects heap.new.objects 0 op.now.allocs) }
 {
     let mut frame = Frame {
         locals: first_locals(alloc, op, args)?,
