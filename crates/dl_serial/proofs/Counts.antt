@@ -150,11 +150,11 @@ both_first false b is = is
 -- what a search finds passes its test
 find_passes : (test : Name × Obj → Bool) (es : Held) (e : Name × Obj) → find test es ≡ Some e → test e ≡ true
 find_passes test [] e is = absurd (none-some e is)
-find_passes test (d ∷ es) e =
+find_passes test (d ∷ es) e is =
     elim (test d) as (λ b. test d ≡ b → cond b (Some d) (find test es) ≡ Some e → test e ≡ true) [
       | true ↦ λ t is. let same : d ≡ e = cc in subst (λ (x : Name × Obj). test x ≡ true) same t
       | false ↦ λ t is. find_passes test es e is
-    ] refl
+    ] refl is
 
 -- a loose object is hidden
 loose_hidden : (g h : Objects) (k : Name) → first_name (is_loose g) h ≡ Some k → nat_lt 0 k.ticket ≡ true

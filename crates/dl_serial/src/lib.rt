@@ -5,7 +5,6 @@ mod frames;
 mod numbers;
 mod operations;
 mod run;
-mod scratch_settle;
 mod steps;
 
 pub use operations::run_op;

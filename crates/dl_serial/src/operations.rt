@@ -11,8 +11,8 @@ ghost use Rattle.dl_shape.specs.Operation.{argument_value as value_given, first_
 
 use crate::frames::{Frame, Task};
 use crate::run::run_block;
-use crate::scratch_settle::settle;
 use dl_ir::{Answer, Call, End, Heap, LocalDecl, Module, Name, OpDecl, Ty, Value};
+use dl_shape::settle;
 use std::alloc::{AllocError, Global};
 
 /// Runs the operation of a call, with a ticket that names what it makes, and settles the heap. Where memory is
