@@ -1,5 +1,6 @@
 mod Counts
 mod Levels
+mod Lines
 mod RootNumbers
 mod Sizes
 mod Turns

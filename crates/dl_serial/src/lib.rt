@@ -5,6 +5,8 @@ mod frames;
 mod numbers;
 mod operations;
 mod run;
+mod serving;
 mod steps;
 
 pub use operations::run_op;
+pub use serving::{Served, run_calls};
