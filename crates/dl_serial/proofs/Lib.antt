@@ -1,4 +1,5 @@
 mod Counts
+mod Laws
 mod Levels
 mod Lines
 mod RootNumbers
