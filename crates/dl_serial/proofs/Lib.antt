@@ -1,4 +1,5 @@
 mod Counts
+mod Covering
 mod Laws
 mod Levels
 mod Lines

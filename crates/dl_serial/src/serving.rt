@@ -46,6 +46,7 @@ pub fn run_calls(alloc: Global, source: &Module, heap: &mut Heap, places: u32, f
     requires room { HasPlaces places heap.old }
     ensures replay { IfOk result (λ served. replayed source.now (calls.now ∷ []) heap.old.objects served.entries ≡ heap.new.objects) }
     ensures legal { IfOk result (λ served. IsLegal source.now (calls.now ∷ []) heap.old.objects served.entries) }
+    ensures covers { IfOk result (λ served. Covers (calls.now ∷ []) served.entries served.refusals) }
     ensures serves { IfOk result (λ served. (version : ℕ) × Serves source.now places first heap.old.objects calls.now (length calls.now) served.entries served.refusals heap.new.objects version) }
     ensures free { IfOk result (λ served. served.free + hidden_count heap.new.objects ≡ places) }
 {
