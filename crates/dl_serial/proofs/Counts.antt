@@ -1,5 +1,5 @@
 -- how the numbers of objects and of hidden objects change with a heap
-use Rattle.std.proofs.Common.{◌≡◌, ℕ, zero, suc, ◌+◌, ◌-◌, ◌<◌, ◌≤◌, Bool, true, false, cond, List, [], ◌∷◌, length, map, filter, refl, sym, ap, subst, ◌∙◌, Option, Some, None, is_some, arith, T}
+use Rattle.std.proofs.Common.{◌≡◌, ℕ, zero, suc, ◌+◌, ◌<◌, ◌≤◌, Bool, true, false, cond, List, [], ◌∷◌, length, map, filter, refl, sym, ap, subst, ◌∙◌, Option, Some, None, is_some, arith, T}
 use Rattle.std.specs.Prelude.{nat_lt, slice_set, find, ◌&&◌}
 use Rattle.std.proofs.lemmas.Bool.{lt-ltb}
 use Rattle.std.specs.Cmp.{Equal-is}
@@ -191,10 +191,10 @@ hidden_in-sealed g (e ∷ es) = hidden_in-cons (sealed_entry g e) (map (sealed_e
 grows-sealed : (h : Objects) → Grows h (sealed_heap h) 0 0
 grows-sealed h =
     let made : finite.entries (sealed_heap h) ≡ map (sealed_entry h) (finite.entries h)
-          = entries-from_sorted name_cmp _ (subst T (sym (sorted-sealed h (finite.entries h))) (entries_sorted h)) in
+    = entries-from_sorted name_cmp _ (subst T (sym (sorted-sealed h (finite.entries h))) (entries_sorted h)) in
     let same_hidden : hidden_count (sealed_heap h) ≡ hidden_count h = ap hidden_in made ∙ hidden_in-sealed h (finite.entries h) in
     let same_len : finite.len (sealed_heap h) ≡ finite.len h
-          = len-entries (sealed_heap h) ∙ ap length made ∙ length-map (finite.entries h) (sealed_entry h) ∙ sym (len-entries h) in
+    = len-entries (sealed_heap h) ∙ ap length made ∙ length-map (finite.entries h) (sealed_entry h) ∙ sym (len-entries h) in
     record { hidden = omega (arith, same_hidden); roots = omega (arith, same_hidden, same_len) }
 
 -- settling

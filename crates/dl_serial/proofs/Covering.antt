@@ -1,6 +1,6 @@
 -- a line of calls covers them
-use Rattle.std.proofs.Common.{◌≡◌, ℕ, zero, suc, ◌+◌, ◌<◌, ◌≤◌, ◌==◌, ◌&&◌, Bool, true, false, cond, List, [], ◌∷◌, ◌++◌, length, take, get_or, refl, sym, ap, subst, ◌∙◌, Option, Some, None, arith, length-append, add-one, add-zero}
-use Rattle.std.specs.Prelude.{slice_get, count_by, sum_by, All, AllPairs}
+use Rattle.std.proofs.Common.{◌≡◌, ℕ, zero, suc, ◌+◌, ◌<◌, ◌≤◌, ◌==◌, ◌&&◌, Bool, cond, List, [], ◌∷◌, ◌++◌, length, take, refl, sym, ap, ◌∙◌, Option, Some, None, arith, add-one, add-zero}
+use Rattle.std.specs.Prelude.{slice_get, count_by, All, AllPairs}
 use Rattle.std.proofs.lemmas.List.Sums.{sum_by-append, sum_by-cons}
 use Rattle.std.proofs.lemmas.List.Elements.{All-push}
 use Rattle.std.proofs.lemmas.List.Quantifiers.{all_pairs_push}
@@ -14,7 +14,7 @@ use Rattle.dl_ir.specs.declared.calls.Call.{Call}
 use Rattle.dl_ir.specs.declared.modules.Module.{Module}
 use Rattle.dl_ir.specs.Cover.{Covers, call_at, runs_of, refusals_of, one_if_there}
 use Rattle.dl_ir.specs.Heap.{Objects}
-use Rattle.dl_serial.specs.Serving.{Serves, IsEntryOf, IsRefusalOf, begins, carries_out, refuses}
+use Rattle.dl_serial.specs.Serving.{Serves, begins, carries_out, refuses}
 
 -- 1 where the numbers are those, 0 elsewhere
 abbrev one_at : ℕ → ℕ → ℕ → ℕ → ℕ

@@ -1,19 +1,16 @@
 -- what a line of calls comes to: a replay, a legal history that covers its calls
-use Rattle.std.proofs.Common.{◌≡◌, ℕ, zero, suc, ◌+◌, ◌<◌, ◌≤◌, ◌==◌, ◌&&◌, Bool, true, false, cond, List, [], ◌∷◌, ◌++◌, length, take, get_or, refl, sym, ap, subst, ◌∙◌, Option, Some, None, arith, length-append, fold, add-one}
-use Rattle.std.specs.Prelude.{slice_get, count_by, sum_by, All, AllPairs}
-use Rattle.std.proofs.lemmas.List.Sums.{fold-append, sum_by-append, sum_by-cons}
-use Rattle.std.proofs.lemmas.List.Elements.{All-push}
-use Rattle.std.proofs.lemmas.List.Quantifiers.{all_pairs_push}
-use Rattle.dl_ir.specs.declared.answers.Answer.{Answer}
+use Rattle.std.proofs.Common.{◌≡◌, ℕ, ◌+◌, List, [], ◌∷◌, ◌++◌, length, refl, sym, ap, ◌∙◌, Some, arith, add-one}
+use Rattle.std.specs.Prelude.{slice_get}
+use Rattle.std.proofs.lemmas.List.Sums.{fold-append}
 use Rattle.dl_ir.specs.declared.answers.Entry.{Entry}
 use Rattle.dl_ir.specs.declared.answers.Refusal.{Refusal}
 use Rattle.dl_ir.specs.declared.calls.Call.{Call}
 use Rattle.dl_ir.specs.declared.modules.Module.{Module}
-use Rattle.dl_ir.specs.Cover.{Covers, call_at, runs_of, refusals_of, one_if_there}
+use Rattle.dl_ir.specs.Cover.{call_at}
 use Rattle.dl_ir.specs.Heap.{Objects}
 use Rattle.dl_shape.specs.Operation.{operated}
 use Rattle.dl_shape.specs.Replay.{after_call, replayed, IsLegalFrom, ends, goes_on}
-use Rattle.dl_serial.specs.Serving.{Serves, IsEntryOf, IsRefusalOf, begins, carries_out, refuses}
+use Rattle.dl_serial.specs.Serving.{Serves, begins, carries_out, refuses}
 
 -- the call of caller 1 with this index
 call_of_one : (calls : List Call) (n caller index : ℕ) (call : Call) → slice_get calls n ≡ Some call → caller ≡ 1 → index ≡ n + 1 → call_at (calls ∷ []) caller index ≡ Some call
@@ -35,7 +32,7 @@ legal-push source files {ticket = t} {heap = h} e call ends drawn there answered
     (answered ∙ ap (λ (n : ℕ). (operated source h n call).answer) (drawn ∙ omega arith)) ends
 legal-push source files {ticket = t} {heap = h} e call (goes_on {entry = d} {rest = rest} first is_ticket there_first answered_first legal) drawn there answered =
     let after : replayed source files h (d ∷ rest) ≡ replayed source files (operated source h t first).objects rest
-          = ap (λ (g : Objects). replayed source files g rest) (ap (after_call source h d.ticket) there_first ∙ ap (λ (n : ℕ). (operated source h n first).objects) is_ticket) in
+    = ap (λ (g : Objects). replayed source files g rest) (ap (after_call source h d.ticket) there_first ∙ ap (λ (n : ℕ). (operated source h n first).objects) is_ticket) in
     goes_on first is_ticket there_first answered_first
     (legal-push source files e call legal (omega (arith, drawn)) there (answered ∙ ap (λ (g : Objects). (operated source g e.ticket call).answer) after))
 

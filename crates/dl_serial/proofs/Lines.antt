@@ -1,7 +1,6 @@
 -- how one call moves a line on
-use Rattle.std.proofs.Common.{◌≡◌, ℕ, zero, suc, ◌+◌, ◌*◌, ◌<◌, ◌≤◌, ◌==◌, Bool, true, false, List, [], ◌∷◌, ◌++◌, length, refl, sym, ap, subst, ◌∙◌, Some, arith, length-append}
+use Rattle.std.proofs.Common.{◌≡◌, ℕ, ◌+◌, ◌<◌, ◌≤◌, ◌==◌, true, false, List, [], ◌∷◌, ◌++◌, length, refl, sym, ap, subst, ◌∙◌, Some, arith, length-append}
 use Rattle.std.specs.Prelude.{slice_get, if◌then◌else◌}
-use Rattle.std.specs.FinMap as finite
 use Rattle.dl_ir.specs.declared.answers.Entry.{Entry}
 use Rattle.dl_ir.specs.declared.answers.Refusal.{Refusal}
 use Rattle.dl_ir.specs.declared.calls.Call.{Call}
@@ -10,9 +9,9 @@ use Rattle.dl_ir.specs.Heap.{Objects, View, hidden_count}
 use Rattle.dl_shape.specs.Operation.{operated}
 use Rattle.dl_serial.specs.declared.serving.Line.{Line}
 use Rattle.dl_serial.specs.Growth.{Grows}
-use Rattle.dl_serial.specs.Progress.{HasPlaces, IsReady, IsAfter, Passes}
+use Rattle.dl_serial.specs.Progress.{IsAfter, Passes}
 use Rattle.dl_serial.specs.Rooms.{allocs_of}
-use Rattle.dl_serial.specs.Serving.{Serves, IsEntryOf, IsRefusalOf, move_count, begins, carries_out, refuses}
+use Rattle.dl_serial.specs.Serving.{Serves, IsEntryOf, IsRefusalOf, move_count, carries_out, refuses}
 
 -- a move or none
 pub one_move : (places : ℕ) → move_count places ≤ 1

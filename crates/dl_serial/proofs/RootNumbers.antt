@@ -1,13 +1,13 @@
 -- the numbers of roots are small
-use Rattle.std.proofs.Common.{◌≡◌, ℕ, zero, suc, ◌+◌, ◌<◌, ◌≤◌, ◌^◌, ℤ, true, List, [], ◌∷◌, refl, sym, ap, subst, Option, Some, None, arith, slice_get}
+use Rattle.std.proofs.Common.{◌≡◌, ℕ, zero, suc, ◌+◌, ◌≤◌, ℤ, true, List, [], ◌∷◌, sym, subst, Some, arith, slice_get}
 use Rattle.std.proofs.lemmas.Option.{none-some}
 use Rattle.dl_ir.specs.declared.modules.KindDecl.{KindDecl}
 use Rattle.dl_ir.specs.declared.modules.LocalDecl.{LocalDecl}
 use Rattle.dl_ir.specs.declared.modules.Module.{Module}
 use Rattle.dl_ir.specs.declared.modules.Ty.{Ty}
 use Rattle.dl_ir.specs.declared.modules.Ty.TheVariants.{Int, Of}
-use Rattle.dl_ir.specs.CallForms.{AllFit, FitsType, IsRootNumber}
-use Rattle.dl_ir.specs.Heap.{HasStart, HasRootsAt, StandInRow}
+use Rattle.dl_ir.specs.CallForms.{AllFit, FitsType}
+use Rattle.dl_ir.specs.Heap.{HasStart, StandInRow}
 use Rattle.dl_serial.specs.Arguments.{AllHeld, CanHold}
 
 -- the row of roots ends below 1,024

@@ -1,5 +1,5 @@
 -- one turn of a loop, as its bound sees it
-use Rattle.std.proofs.Common.{◌≡◌, ℕ, zero, suc, ◌+◌, ◌-◌, ◌<◌, ◌≤◌, true, false, is_some, true≢false, ◌==◌, refl, sym, ap, ◌∙◌, Option, Some, None, Ok, arith}
+use Rattle.std.proofs.Common.{◌≡◌, ℕ, zero, suc, ◌-◌, ◌<◌, ◌≤◌, true, false, is_some, true≢false, ◌==◌, refl, sym, Option, Some, None, Ok, arith}
 use Rattle.std.proofs.lemmas.Bool.{ne_eqb}
 use Rattle.dl_ir.specs.declared.answers.End.{End}
 use Rattle.dl_ir.specs.declared.expressions.Cond.{Cond}

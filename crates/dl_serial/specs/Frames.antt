@@ -1,6 +1,6 @@
 use Rattle.dl_serial.specs.declared.frames.Frame.{Frame}
 use Rattle.dl_serial.specs.declared.frames.Task.{Task}
-use Rattle.std.specs.Prelude.{ℕ, ◌+◌, ◌≤◌}
+use Rattle.std.specs.Prelude.{◌+◌, ◌≤◌}
 use Rattle.std.specs.FinMap as finite
 use Rattle.dl_ir.specs.Heap.{View}
 use Rattle.dl_ir.specs.Meaning.{Context, State}

@@ -43,7 +43,7 @@ pub data Serves (source : Module) (places first : ℕ) (start : Objects) (calls 
       → allocs_of source call + hidden_count heap ≤ places
       → IsEntryOf source heap call (first + length entries) (count + 1) version entry
       → Serves source places first start calls (count + 1) (entries ++ entry ∷ []) refusals (operated source heap (first + length entries) call).objects
-          (version + move_count (allocs_of source call) + move_count entry.returned)
+      (version + move_count (allocs_of source call) + move_count entry.returned)
   refuses : {count version : ℕ} {entries : List Entry} {refusals : List Refusal} {heap : Objects} (call : Call) (refusal : Refusal)
       → Serves source places first start calls count entries refusals heap version
       → slice_get calls count ≡ Some call

@@ -17,7 +17,13 @@ use std::alloc::{AllocError, Global};
 
 /// Runs the operation of a call, with a ticket that names what it makes, and settles the heap. Where memory is
 /// wanting the heap is spent: it is of no use but to be dropped.
-pub fn run_op(alloc: Global, source: &Module, heap: &mut Heap, ticket: u64, call: &Call) -> Result<Answer, AllocError>
+pub fn run_op(
+    alloc: Global,
+    source: &Module,
+    heap: &mut Heap,
+    ticket: u64,
+    call: &Call,
+) -> Result<Answer, AllocError>
     requires start { HasStart source.now }
     requires of_module { IsCallOf source.now call.now }
     requires ticket { 0 < ticket }
@@ -33,7 +39,14 @@ pub fn run_op(alloc: Global, source: &Module, heap: &mut Heap, ticket: u64, call
 }
 
 // Runs the body of an operation, and settles the heap.
-fn run_body(alloc: Global, source: &Module, heap: &mut Heap, ticket: u64, op: &OpDecl, args: &[i64]) -> Result<Answer, AllocError>
+fn run_body(
+    alloc: Global,
+    source: &Module,
+    heap: &mut Heap,
+    ticket: u64,
+    op: &OpDecl,
+    args: &[i64],
+) -> Result<Answer, AllocError>
     requires start { HasStart source.now }
     requires fits { AllFit source.now op.now.params args.now }
     requires ticket { 0 < ticket }
@@ -69,7 +82,11 @@ fn first_locals(alloc: Global, op: &OpDecl, args: &[i64]) -> Result<Vec<Value>, 
 }
 
 // The values of arguments for parameters.
-fn arguments_given(alloc: Global, params: &[LocalDecl], args: &[i64]) -> Result<Vec<Value>, AllocError>
+fn arguments_given(
+    alloc: Global,
+    params: &[LocalDecl],
+    args: &[i64],
+) -> Result<Vec<Value>, AllocError>
     requires { AllHeld params.now args.now }
     ensures { IfOk result (λ locals. locals.items ≡ map (λ (given : LocalDecl × ℤ). value_given given.0.ty given.1) (zip params.now args.now)) }
 {

@@ -6,12 +6,21 @@ ghost use Rattle.dl_serial.specs.Growth.{Grows};
 
 use crate::frames::{Frame, Task};
 use crate::numbers::{evaluate, target_at, test};
-use crate::steps::{end_of_fault, run_copy, run_follow, run_link, run_load, run_new, run_null, run_set_int, run_store};
+use crate::steps::{
+    end_of_fault, run_copy, run_follow, run_link, run_load, run_new, run_null, run_set_int,
+    run_store,
+};
 use dl_ir::{Block, Cond, End, Heap, Module, Stmt};
 
 /// Runs a statement, and answers how the operation ended there, if it did.
 #[cycle(run)]
-pub fn run_stmt(source: &Module, task: Task, s: &Stmt, frame: &mut Frame, heap: &mut Heap) -> Option<End>
+pub fn run_stmt(
+    source: &Module,
+    task: Task,
+    s: &Stmt,
+    frame: &mut Frame,
+    heap: &mut Heap,
+) -> Option<End>
     requires start { HasStart source.now }
     requires ticket { 0 < task.ticket }
     requires room { HasRoom task frame.old heap.old }
@@ -55,7 +64,13 @@ pub fn run_stmt(source: &Module, task: Task, s: &Stmt, frame: &mut Frame, heap: 
 
 /// Runs the statements of a block one after another, up to the first end.
 #[cycle(run)]
-pub fn run_block(source: &Module, task: Task, block: &Block, frame: &mut Frame, heap: &mut Heap) -> Option<End>
+pub fn run_block(
+    source: &Module,
+    task: Task,
+    block: &Block,
+    frame: &mut Frame,
+    heap: &mut Heap,
+) -> Option<End>
     requires start { HasStart source.now }
     requires ticket { 0 < task.ticket }
     requires room { HasRoom task frame.old heap.old }
@@ -76,7 +91,14 @@ pub fn run_block(source: &Module, task: Task, block: &Block, frame: &mut Frame, 
 
 /// Runs a loop: each test of its condition takes a turn.
 #[cycle(run)]
-pub fn run_loop(source: &Module, task: Task, c: &Cond, body: &Block, frame: &mut Frame, heap: &mut Heap) -> Option<End>
+pub fn run_loop(
+    source: &Module,
+    task: Task,
+    c: &Cond,
+    body: &Block,
+    frame: &mut Frame,
+    heap: &mut Heap,
+) -> Option<End>
     requires start { HasStart source.now }
     requires ticket { 0 < task.ticket }
     requires room { HasRoom task frame.old heap.old }

@@ -37,7 +37,14 @@ pub struct Line {
 /// Runs the operations of caller 1 one after another, with tickets from `first` on. An operation is refused exactly
 /// where the places less the hidden objects are below the number of objects that it may make. Where memory is
 /// wanting the heap is spent: it is of no use but to be dropped.
-pub fn run_calls(alloc: Global, source: &Module, heap: &mut Heap, places: u32, first: u64, calls: &Calls) -> Result<Served, AllocError>
+pub fn run_calls(
+    alloc: Global,
+    source: &Module,
+    heap: &mut Heap,
+    places: u32,
+    first: u64,
+    calls: &Calls,
+) -> Result<Served, AllocError>
     requires start { HasStart source.now }
     requires of_module { AreCallsOf source.now calls.now }
     requires next { first ≡ greatest_ticket heap.old.objects + 1 }
@@ -79,7 +86,14 @@ fn hidden_objects(heap: &Heap) -> usize
 }
 
 // Carries out a call, or refuses it.
-fn serve(alloc: Global, source: &Module, heap: &mut Heap, call: &Call, index: u32, line: &mut Line) -> Result<(), AllocError>
+fn serve(
+    alloc: Global,
+    source: &Module,
+    heap: &mut Heap,
+    call: &Call,
+    index: u32,
+    line: &mut Line,
+) -> Result<(), AllocError>
     requires start { HasStart source.now }
     requires of_module { IsCallOf source.now call.now }
     requires ready { IsReady line.old heap.old }
@@ -103,7 +117,14 @@ fn serve(alloc: Global, source: &Module, heap: &mut Heap, call: &Call, index: u3
 }
 
 // Carries out a call for which there are places.
-fn carry_out(alloc: Global, source: &Module, heap: &mut Heap, call: &Call, index: u32, line: &mut Line) -> Result<Entry, AllocError>
+fn carry_out(
+    alloc: Global,
+    source: &Module,
+    heap: &mut Heap,
+    call: &Call,
+    index: u32,
+    line: &mut Line,
+) -> Result<Entry, AllocError>
     requires start { HasStart source.now }
     requires of_module { IsCallOf source.now call.now }
     requires ready { IsReady line.old heap.old }

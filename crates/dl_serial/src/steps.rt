@@ -149,7 +149,14 @@ pub fn run_follow(p: u32, q: u32, f: u32, frame: &mut Frame, heap: &Heap) -> Opt
 }
 
 /// `p = new K;`
-pub fn run_new(source: &Module, task: Task, p: u32, kind: u32, frame: &mut Frame, heap: &mut Heap) -> Option<End>
+pub fn run_new(
+    source: &Module,
+    task: Task,
+    p: u32,
+    kind: u32,
+    frame: &mut Frame,
+    heap: &mut Heap,
+) -> Option<End>
     requires start { HasStart source.now }
     requires ticket { 0 < task.ticket }
     requires room { HasRoom task frame.old heap.old }

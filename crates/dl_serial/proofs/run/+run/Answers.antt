@@ -1,4 +1,4 @@
-use Rattle.std.proofs.Common.{arith, sym, ap, ◌∙◌, Ok, None}
+use Rattle.std.proofs.Common.{arith, sym, ap, ◌∙◌, Ok}
 use Rattle.dl_serial.specs.Frames.{state_of, context_of}
 use Rattle.dl_ir.specs.Meaning.{block_does}
 use Rattle.dl_ir.specs.declared.statements.Stmt.TheVariants.{outs-SetInt, outs-Load, outs-Store, outs-Copy, outs-Null, outs-Follow}
@@ -11,9 +11,9 @@ pub run_loop-loop-frame-preserved : goal.run_loop-loop-frame-preserved
 run_loop-loop-frame-preserved t c =
     let i = c.loop-frame.invariant.gives in
     let next = turn c.args.c.now (block_does (context_of c.args.source.now c.args.task) c.args.body.now) (state_of c.loop-frame.frame c.loop-frame.heap) (state_of c.run_block-end.new.frame c.run_block-end.new.heap) i.0
-        c.loop-frame-test.true i.1 (rw (← c.deref.ensures.value) (sym c.in-Ok-true.ensures ∙ ap Ok c.in-Ok-true.field-0-test))
-        (c.run_block-end.ensures.gives ∙ ap (λ e. record { state = state_of c.run_block-end.new.frame c.run_block-end.new.heap; end = e }) (is_none_of _ c.if-is_some.ensures))
-        c.run_block-end.ensures.turns in
+    c.loop-frame-test.true i.1 (rw (← c.deref.ensures.value) (sym c.in-Ok-true.ensures ∙ ap Ok c.in-Ok-true.field-0-test))
+    (c.run_block-end.ensures.gives ∙ ap (λ e. record { state = state_of c.run_block-end.new.frame c.run_block-end.new.heap; end = e }) (is_none_of _ c.if-is_some.ensures))
+    c.run_block-end.ensures.turns in
     record {
       gives = (next.0, next.1, next.2 ∙ i.2);
       turns = omega arith;

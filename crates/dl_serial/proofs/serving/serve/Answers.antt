@@ -1,4 +1,4 @@
-use Rattle.std.proofs.Common.{sym, ◌+◌, refl, subst}
+use Rattle.std.proofs.Common.{refl, subst}
 use Rattle.dl_serial.specs.Serving.{IsEntryOf}
 use Rattle.dl_serial.proofs.Lines.{after_refusal, after_entry}
 use Rattle.dl_serial.proofs.serving.serve.Goals as goal
