@@ -32,7 +32,7 @@ one name = cond (nat_lt 0 name.ticket) 1 0
 abbrev pub hidden_in : Held → ℕ
 hidden_in es = length (filter (λ (e : Name × Obj). nat_lt 0 e.0.ticket) es)
 
-hidden_in-cons : (e : Name × Obj) (es : Held) → hidden_in (e ∷ es) ≡ one e.0 + hidden_in es
+pub hidden_in-cons : (e : Name × Obj) (es : Held) → hidden_in (e ∷ es) ≡ one e.0 + hidden_in es
 hidden_in-cons e es =
     elim (nat_lt 0 e.0.ticket) as (λ b. length (cond b (e ∷ filter (λ (d : Name × Obj). nat_lt 0 d.0.ticket) es) (filter (λ (d : Name × Obj). nat_lt 0 d.0.ticket) es)) ≡ cond b 1 0 + hidden_in es) [
       | true ↦ omega arith

@@ -5,4 +5,5 @@ mod Levels
 mod Lines
 mod RootNumbers
 mod Sizes
+pub mod Starting
 mod Turns

@@ -10,3 +10,6 @@ mod steps;
 
 pub use operations::run_op;
 pub use serving::{Served, run_calls};
+
+#[cfg(test)]
+mod tests;
