@@ -1,11 +1,11 @@
-ghost use Rattle.std.specs.Prelude.{◌≡◌, ◌≤◌, false, length};
+ghost use Rattle.std.specs.Prelude.{◌≡◌, ◌≤◌, [], false, length, sum_by, codes};
 ghost use Rattle.std.specs.Option.{option_copied, option_map_or};
 ghost use Rattle.std.specs.List.{find, flat_map};
 ghost use Rattle.dl_ir.specs.Cover.{call_at};
 ghost use Rattle.dl_text.specs.Writing.{Puts};
-ghost use Rattle.dl_history.specs.Report.{outcome_text, answer_line, answer_lines, answers_part, op_text, call_text, place_text, history_line, history_part, is_entry_of, is_refusal_of, refusal_text, argument_text, each_from};
+ghost use Rattle.dl_history.specs.Report.{outcome_text, answer_line, answer_lines, answers_part, op_text, call_text, place_text, history_line, history_part, is_entry_of, is_refusal_of, refusal_text, argument_text, each_from, head_line, AreFew};
 
-use crate::pieces::{put_answer, put_argument, put_dotted, put_head, put_refusal};
+use crate::pieces::{put_answer, put_argument, put_dotted, put_head, put_refusal, put_text};
 use dl_ir::{Call, Calls, Entry, Module, Refusal};
 use dl_text::{Failed, Out, Sink};
 
@@ -82,7 +82,7 @@ fn put_answer_lines<K: Sink>(
     entries: &[Entry],
     refusals: &[Refusal],
     caller: u32,
-    calls: &[Call],
+    calls: &Calls,
 ) -> Result<(), Failed>
     requires works { out.old.failed ≡ false }
     requires few { length calls.now ≤ 65536 }
@@ -100,7 +100,7 @@ fn put_op<K: Sink>(out: &mut Out, sink: &mut K, source: &Module, op: u32) -> Res
     ensures { Puts (K.taken sink.old) out.old (op_text source.now op) result (K.taken sink.new) out.new }
 {
     match source.ops.get(op as usize) {
-        Some(decl) => out.put(sink, decl.name.as_slice()),
+        Some(decl) => put_text(out, sink, &decl.name),
         None => out.put(sink, b""),
     }
 }
@@ -110,9 +110,16 @@ fn put_arguments<K: Sink>(out: &mut Out, sink: &mut K, arguments: &[i64]) -> Res
     ensures { Puts (K.taken sink.old) out.old (flat_map argument_text arguments.now) result (K.taken sink.new) out.new }
 {
     'arguments: for argument in arguments {
-        put_argument(out, sink, *argument)?;
+        put_argument(out, sink, argument)?;
     }
     Ok(())
+}
+
+fn put_call_arguments<K: Sink>(out: &mut Out, sink: &mut K, call: &Call) -> Result<(), Failed>
+    requires { out.old.failed ≡ false }
+    ensures { Puts (K.taken sink.old) out.old (flat_map argument_text call.now.args) result (K.taken sink.new) out.new }
+{
+    put_arguments(out, sink, call.args.as_slice())
 }
 
 fn put_call<K: Sink>(
@@ -125,7 +132,7 @@ fn put_call<K: Sink>(
     ensures { Puts (K.taken sink.old) out.old (call_text source.now call.now) result (K.taken sink.new) out.new }
 {
     put_op(out, sink, source, call.op)?;
-    put_arguments(out, sink, call.args.as_slice())
+    put_call_arguments(out, sink, call)
 }
 
 /// The operation of a caller with this index, both counted from 1.
@@ -212,14 +219,7 @@ fn put_all_answer_lines<K: Sink>(
     ensures { Puts (K.taken sink.old) out.old (each_from (answer_lines entries.now refusals.now) 1 files.now) result (K.taken sink.new) out.new }
 {
     'callers: for i in 0..files.len() {
-        put_answer_lines(
-            out,
-            sink,
-            entries,
-            refusals,
-            i as u32 + 1,
-            files[i].as_slice(),
-        )?;
+        put_answer_lines(out, sink, entries, refusals, i as u32 + 1, &files[i])?;
     }
     Ok(())
 }
@@ -230,10 +230,18 @@ fn count_calls(files: &[Calls]) -> usize
     ensures { result ≡ sum_by length files.now }
 {
     let mut count = 0;
-    'callers: for calls in files {
-        count += calls.len();
+    'callers: for i in 0..files.len() {
+        count += files[i].len();
     }
     count
+}
+
+fn put_answers_head<K: Sink>(out: &mut Out, sink: &mut K, files: &[Calls]) -> Result<(), Failed>
+    requires works { out.old.failed ≡ false }
+    requires few { AreFew files.now }
+    ensures { Puts (K.taken sink.old) out.old (head_line (codes "answers ") (sum_by length files.now)) result (K.taken sink.new) out.new }
+{
+    put_head(out, sink, b"answers ", count_calls(files))
 }
 
 /// Puts the number of operations, and a line for each.
@@ -248,7 +256,7 @@ pub fn put_answers<K: Sink>(
     requires few { AreFew files.now }
     ensures { Puts (K.taken sink.old) out.old (answers_part files.now entries.now refusals.now) result (K.taken sink.new) out.new }
 {
-    put_head(out, sink, b"answers ", count_calls(files))?;
+    put_answers_head(out, sink, files)?;
     put_all_answer_lines(out, sink, files, entries, refusals)
 }
 

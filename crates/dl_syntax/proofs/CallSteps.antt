@@ -1,11 +1,11 @@
 -- How the calls of a text follow from its first line and the lines behind it.
 use Rattle.std.proofs.Common.{◌≡◌, ◌≢◌, ℕ, ◌+◌, List, [], ◌∷◌, length, take, drop, refl, ap, ◌∙◌, sym}
-use Rattle.std.specs.Prelude.{Option, Some, None, Result, Ok, Err, MatchResult, IfOk, IfErr}
+use Rattle.std.specs.Prelude.{Option, Result, Ok, Err, MatchResult}
 use Rattle.dl_ir.specs.declared.modules.Module.{Module}
 use Rattle.dl_ir.specs.declared.calls.Call.{Call}
 use Rattle.dl_syntax.specs.declared.calls.CallsFault.{CallsFault}
 use Rattle.dl_syntax.specs.declared.calls.CallsFault.TheVariants.{NotAscii, BadByte, TooMany, NoOp, ArgCount, NotNumber, NoRoot, Memory}
-use Rattle.dl_syntax.specs.Line.{is_feed, pieces, lines_of}
+use Rattle.dl_syntax.specs.Line.{is_feed, lines_of}
 use Rattle.dl_syntax.specs.Calls.{call_of_line, with_call, after_line, calls_from, Gives}
 use Rattle.dl_syntax.proofs.WordCuts.{piece_len, behind, pieces_cut}
 

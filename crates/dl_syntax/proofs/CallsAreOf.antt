@@ -1,6 +1,6 @@
 -- What a text says are calls of the module.
-use Rattle.std.proofs.Common.{◌≡◌, ℕ, ◌+◌, ◌<◌, ◌≤◌, Bool, true, false, ◌&&◌, nat_le, nat_lt, List, [], ◌∷◌, ◌++◌, length, refl, ap, ◌∙◌, sym, subst, arith, length-append}
-use Rattle.std.specs.Prelude.{IfOk, Option, Some, None, Result, Ok, Err, ℤ, pos, negsuc, slice_get, All, if◌then◌else◌, ◌==◌}
+use Rattle.std.proofs.Common.{◌≡◌, ℕ, ◌+◌, ◌<◌, Bool, true, false, ◌&&◌, nat_le, nat_lt, List, [], ◌∷◌, ◌++◌, length, refl, subst, arith, length-append}
+use Rattle.std.specs.Prelude.{IfOk, Option, Some, None, Result, Ok, Err, ℤ, pos, negsuc, slice_get, if◌then◌else◌, ◌==◌}
 use Rattle.std.proofs.lemmas.List.Elements.{All-push}
 use Rattle.std.proofs.lemmas.Bool.Decides.{nat_tests}
 use Rattle.dl_ir.specs.declared.modules.Ty.{Ty}
@@ -13,8 +13,8 @@ use Rattle.dl_ir.specs.declared.calls.Call.{Call}
 use Rattle.dl_ir.specs.CallForms.{IsRootNumber, FitsType, AllFit, IsCallOf, AreCallsOf}
 use Rattle.dl_syntax.specs.declared.calls.CallsFault.{CallsFault}
 use Rattle.dl_syntax.specs.declared.calls.CallsFault.TheVariants.{TooMany, ArgCount, NoRoot}
-use Rattle.dl_syntax.specs.Line.{words_of, before_comment, numbers_of, is_wrong}
-use Rattle.dl_syntax.specs.Calls.{is_root_of, fits, all_fit, call_with, Gives, call_of_op, op_named, call_of_found, call_of_words, call_unless_wrong, call_of_line, with_call, after_line, calls_from}
+use Rattle.dl_syntax.specs.Line.{words_of, before_comment, numbers_of}
+use Rattle.dl_syntax.specs.Calls.{is_root_of, fits, all_fit, call_with, Gives, call_of_op, op_named, call_of_found, call_of_words, call_unless_wrong, call_of_line, after_line, calls_from}
 
 both_true : (a b : Bool) → (a && b) ≡ true → (a ≡ true) × (b ≡ true)
 both_true true true h = (refl, refl)

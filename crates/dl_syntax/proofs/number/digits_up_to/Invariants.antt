@@ -1,4 +1,4 @@
-use Rattle.std.proofs.Common.{◌≡◌, ◌<◌, ◌≤◌, length, drop}
+use Rattle.std.proofs.Common.{◌≡◌, ◌≤◌, drop}
 use Rattle.dl_syntax.specs.Line.{at_most, digits_from, digits_of}
 use Rattle.dl_syntax.proofs.number.digits_up_to.Given as goal
 

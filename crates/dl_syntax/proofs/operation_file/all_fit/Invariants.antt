@@ -1,4 +1,4 @@
-use Rattle.std.proofs.Common.{◌≡◌, length, drop}
+use Rattle.std.proofs.Common.{◌≡◌, drop}
 use Rattle.dl_syntax.specs.Calls as spec
 use Rattle.dl_syntax.proofs.operation_file.all_fit.Given as goal
 

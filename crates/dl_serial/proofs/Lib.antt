@@ -1,0 +1,9 @@
+mod Counts
+mod Covering
+mod Laws
+mod Levels
+mod Lines
+mod RootNumbers
+mod Sizes
+pub mod Starting
+mod Turns
