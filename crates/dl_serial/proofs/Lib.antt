@@ -7,3 +7,4 @@ mod RootNumbers
 mod Sizes
 pub mod Starting
 mod Turns
+mod Rising

@@ -3,7 +3,10 @@ ghost use Rattle.dl_ir.specs.CallForms.{IsCallOf};
 ghost use Rattle.dl_ir.specs.Heap.{HasStart};
 
 use crate::run_calls;
-use dl_ir::{Answer, Call, Calls, End, Entry, Expr, FieldDecl, Heap, KindDecl, LocalDecl, Module, Op, OpDecl, Stmt, Ty};
+use dl_ir::{
+    Answer, Call, Calls, End, Entry, Expr, FieldDecl, Heap, KindDecl, LocalDecl, Module, Op,
+    OpDecl, Stmt, Ty,
+};
 use sqlite_items::{Boxed, Items};
 use std::alloc::{AllocError, Global};
 use std::test::Fail;
