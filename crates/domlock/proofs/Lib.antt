@@ -1,3 +1,4 @@
+mod EndLemmas
 mod FileLemmas
 mod LoadingLemmas
 mod ReadingLemmas

@@ -4,3 +4,4 @@ pub mod Status
 pub mod Texts
 pub mod Causes
 pub mod Loading
+pub mod Promise
