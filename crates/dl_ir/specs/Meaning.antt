@@ -140,7 +140,7 @@ loops (suc n) c body s =
 abbrev pub links_to : ℕ → ℕ → Option Name → Does
 links_to q f target s =
     at_object (refers_in s q) s (λ name.
-      unless_sealed (target_of (field_in s name f)) s (goes_on (set_field name f (Ref target) s)))
+    unless_sealed (target_of (field_in s name f)) s (goes_on (set_field name f (Ref target) s)))
 
 -- one level of a statement, the statements in it being replaced by what they do
 abbrev pub step : Context → Stmt-F Does → Does

@@ -3,6 +3,7 @@ mod Covering
 mod Laws
 mod Levels
 mod Lines
+mod Rising
 mod RootNumbers
 mod Sizes
 pub mod Starting

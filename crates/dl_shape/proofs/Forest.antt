@@ -1,20 +1,20 @@
 -- A heap is a forest where each of its objects stands in one.
-use Rattle.std.proofs.Common.{◌≡◌, ℕ, zero, suc, ◌+◌, ◌<◌, ◌≤◌, Bool, true, false, cond, ◌&&◌, ◌||◌, List, [], ◌∷◌, refl, sym, ap, subst, ◌∙◌, Option, Some, None, arith, ◌⊎◌, inl, inr}
-use Rattle.std.specs.Prelude.{find, sum_by, count_by, nat_lt, nat_le, ◌==◌, if◌then◌else◌}
+use Rattle.std.proofs.Common.{◌≡◌, ℕ, ◌<◌, ◌≤◌, Bool, true, false, cond, ◌&&◌, ◌||◌, List, [], ◌∷◌, refl, sym, ap, ◌∙◌, Some, None, arith}
+use Rattle.std.specs.Prelude.{count_by, nat_lt, nat_le, if◌then◌else◌}
 use Rattle.std.specs.List.{list_any, list_all}
 use Rattle.std.specs.FinMap as map
-use Rattle.std.proofs.lemmas.Bool.{ltb-true, lt-ltb, eqb-true, eqb-false, le-leb}
+use Rattle.std.proofs.lemmas.Bool.{ltb-true, lt-ltb, eqb-true}
 use Rattle.std.proofs.lemmas.Bool.Decides.{nat_tests}
 use Rattle.std.proofs.lemmas.List.Sums.{sum_by-cons}
 use Rattle.dl_ir.specs.declared.names.Name.{Name}
 use Rattle.dl_ir.specs.declared.names.Value.{Value}
 use Rattle.dl_ir.specs.declared.names.Value.TheVariants.{Int, Ref}
 use Rattle.dl_ir.specs.declared.objects.Obj.{Obj}
-use Rattle.dl_ir.specs.Heap.{Objects, IsHidden}
+use Rattle.dl_ir.specs.Heap.{Objects}
 use Rattle.dl_shape.specs.References.{name_eq, refers_to, refs, IsForest}
-use Rattle.dl_shape.specs.Settling.{is_open, is_shared}
+use Rattle.dl_shape.specs.Settling.{is_shared}
 use Rattle.dl_shape.specs.Forests.{names_root, stands_in_forest}
-use Rattle.dl_shape.proofs.Members.{Held, In, in_entries, get_in, all_pass, pass_all, term_le, zeros}
+use Rattle.dl_shape.proofs.Members.{In, in_entries, get_in, all_pass, term_le, zeros}
 
 abbrev one_if : Bool → ℕ
 one_if b = cond b 1 0

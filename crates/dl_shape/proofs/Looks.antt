@@ -1,5 +1,5 @@
 -- Looking through entries one after another.
-use Rattle.std.proofs.Common.{◌≡◌, ℕ, zero, suc, ◌+◌, ◌<◌, ◌≤◌, Bool, true, false, cond, List, [], ◌∷◌, ◌++◌, length, get_or, take, refl, sym, ap, ◌∙◌, Option, Some, None, arith, ◌⊎◌, inl, inr}
+use Rattle.std.proofs.Common.{◌≡◌, ℕ, zero, suc, ◌+◌, ◌<◌, Bool, true, false, cond, [], ◌∷◌, ◌++◌, length, get_or, take, sym, ap, ◌∙◌, Some, None, arith, inl, inr}
 use Rattle.std.specs.Prelude.{find}
 use Rattle.std.proofs.lemmas.List.{take_more}
 use Rattle.dl_ir.specs.declared.names.Name.{Name}

@@ -1,8 +1,6 @@
 -- Sealing by marks, where each mark says whether the object is shared.
-use Rattle.std.proofs.Common.{◌≡◌, Bool, ◌||◌, List, [], ◌∷◌, map, refl, ap}
+use Rattle.std.proofs.Common.{◌≡◌, [], ◌∷◌, map, refl, ap}
 use Rattle.std.specs.FinMap as maps
-use Rattle.dl_ir.specs.declared.names.Name.{Name}
-use Rattle.dl_ir.specs.declared.objects.Obj.{Obj}
 use Rattle.dl_ir.specs.Heap.{Objects}
 use Rattle.dl_ir.specs.Marks.{seal_each, seal_marked}
 use Rattle.dl_shape.specs.Settling.{is_shared, sealed_entry, sealed_heap}

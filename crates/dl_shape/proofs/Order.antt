@@ -1,19 +1,19 @@
 -- The order in which loose objects are removed does not matter.
-use Rattle.std.proofs.Common.{◌≡◌, ◌≢◌, ℕ, zero, suc, ◌+◌, ◌-◌, ◌<◌, ◌≤◌, Bool, true, false, cond, ◌&&◌, List, [], ◌∷◌, refl, sym, ap, subst, ◌∙◌, Option, Some, None, arith, ◌⊎◌, inl, inr, eqb}
-use Rattle.std.specs.Prelude.{find, sum_by, count_by, nat_lt, ◌==◌, if◌then◌else◌, is_some}
+use Rattle.std.proofs.Common.{◌≡◌, ℕ, zero, suc, ◌+◌, ◌≤◌, Bool, true, false, cond, ◌&&◌, refl, sym, ap, subst, ◌∙◌, Option, Some, None, arith, ◌⊎◌, inl, inr}
+use Rattle.std.specs.Prelude.{find, count_by, nat_lt, ◌==◌, if◌then◌else◌, is_some}
 use Rattle.std.specs.Option.{option_map}
 use Rattle.std.specs.Cmp.{Equal-is}
-use Rattle.std.specs.Ordering.{is_eq, eq_by_cmp}
+use Rattle.std.specs.Ordering.{eq_by_cmp}
 use Rattle.std.specs.FinMap as map
-use Rattle.std.specs.FinMap.{get-remove, get-insert, same_map, len-insert, len-entries, empty_of_len, get-empty}
+use Rattle.std.specs.FinMap.{get-remove, same_map, len-insert, empty_of_len, get-empty}
 use Rattle.std.proofs.lemmas.Bool.{ltb-true, lt-ltb, eqb-true}
-use Rattle.std.proofs.lemmas.Cmp.{tied_itself, eq_by_cmp_equiv}
+use Rattle.std.proofs.lemmas.Cmp.{eq_by_cmp_equiv}
 use Rattle.dl_ir.specs.declared.names.Name.{Name}
 use Rattle.dl_ir.specs.declared.objects.Obj.{Obj}
-use Rattle.dl_ir.specs.Heap.{Objects, name_cmp, IsHidden}
+use Rattle.dl_ir.specs.Heap.{Objects, name_cmp}
 use Rattle.dl_shape.specs.References.{refs, refers_to}
-use Rattle.dl_shape.specs.Settling.{is_open, is_loose, first_name, IsLoose, Trims, done, drop, without, trim_by, trim, OrderDoesNotMatter}
-use Rattle.dl_shape.proofs.Members.{Held, In, names_total, exact_names, in_entries, get_in, find_some, find_none}
+use Rattle.dl_shape.specs.Settling.{is_loose, first_name, IsLoose, Trims, done, drop, without, trim_by, OrderDoesNotMatter}
+use Rattle.dl_shape.proofs.Members.{In, names_total, exact_names, in_entries, get_in, find_some, find_none}
 use Rattle.dl_shape.proofs.Totals.{total-remove, gone, put_back}
 
 -- names are the same or differ

@@ -1,12 +1,11 @@
 -- Entry by entry, what makes a heap a forest.
-use Rattle.std.specs.Prelude.{◌&&◌, ◌||◌, ◌==◌, ℕ, Bool, true, false, Some, None, nat_le, if◌then◌else◌, List}
+use Rattle.std.specs.Prelude.{◌==◌, Bool, true, false, Some, None, if◌then◌else◌}
 use Rattle.std.specs.List.{list_any}
 use Rattle.dl_ir.specs.declared.names.Name.{Name}
 use Rattle.dl_ir.specs.declared.names.Value.{Value}
 use Rattle.dl_ir.specs.declared.names.Value.TheVariants.{Int, Ref}
 use Rattle.dl_ir.specs.declared.objects.Obj.{Obj}
 use Rattle.dl_ir.specs.Heap.{Objects}
-use Rattle.dl_shape.specs.References.{refs}
 use Rattle.dl_shape.specs.Settling.{is_shared}
 
 -- a value refers to a root

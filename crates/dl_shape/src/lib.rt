@@ -5,5 +5,5 @@
 mod references;
 mod settling;
 
-pub use references::{is_forest, refs};
+pub use references::{has_countable_fields, is_forest, refs};
 pub use settling::{order_of_removals, settle};

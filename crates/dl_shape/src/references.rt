@@ -23,6 +23,18 @@ pub fn refs(heap: &Heap, name: Name) -> u32
     count
 }
 
+/// Whether the heap's objects have together at most 4,294,967,295 fields, so that `refs` may count them.
+pub fn has_countable_fields(heap: &Heap) -> bool
+    ensures { IsTrue result ↔ (sum_by (λ (entry : Name × Obj). length entry.1.fields) (map.entries heap.now.objects) < 2 ^ 32) }
+{
+    let entries = heap.entries();
+    let mut total: usize = 0;
+    for (_, object) in entries {
+        total = total.saturating_add(object.fields.len());
+    }
+    total < 4_294_967_296
+}
+
 // The number of these fields that refer to the object of this name.
 fn refs_in(fields: &[Value], name: Name) -> u32
     requires { length fields.now < 2 ^ 32 }

@@ -3,6 +3,7 @@ use Rattle.std.proofs.lemmas.Option.{slice_get_read}
 use Rattle.dl_shape.specs.Replay.{IsLegalFrom}
 use Rattle.dl_serial.proofs.Covering.{serves_covers}
 use Rattle.dl_serial.proofs.Laws.{serves_replayed, serves_legal}
+use Rattle.dl_serial.proofs.Rising.{serves_rise}
 use Rattle.dl_serial.specs.Serving.{Serves, begins}
 use Rattle.dl_serial.proofs.serving.run_calls.Goals as goal
 
@@ -43,3 +44,6 @@ returns-clause-covers c =
     let all : c.loop-at.at ≡ length c.args.calls.now = omega (arith, ap length c.loop-at.invariant.same) in
     serves_covers c.args.source.now c.args.places c.args.first c.args.heap.now.objects c.args.calls.now
     (subst (λ n. Serves c.args.source.now c.args.places c.args.first c.args.heap.now.objects c.args.calls.now n c.loop-at.line.entries c.loop-at.line.refusals c.loop-at.heap.objects c.loop-at.line.version) all c.loop-at.invariant.after.serves)
+
+pub returns-clause-rising : goal.returns-clause-rising
+returns-clause-rising c = serves_rise _ _ _ _ _ c.loop-at.invariant.after.serves

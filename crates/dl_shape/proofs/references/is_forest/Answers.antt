@@ -1,9 +1,6 @@
 use Rattle.std.proofs.Common.{◌≡◌, true, false, refl, ap, sym, subst, ◌∙◌}
 use Rattle.std.specs.List.{list_all}
-use Rattle.std.specs.FinMap.{entries}
 use Rattle.std.proofs.lemmas.List.{take_all}
-use Rattle.dl_ir.specs.declared.names.Name.{Name}
-use Rattle.dl_ir.specs.declared.objects.Obj.{Obj}
 use Rattle.dl_shape.specs.Forests.{stands_in_forest}
 use Rattle.dl_shape.proofs.Members.{Held, In}
 use Rattle.dl_shape.proofs.Looks.{in_at}

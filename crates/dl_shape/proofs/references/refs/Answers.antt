@@ -1,4 +1,4 @@
-use Rattle.std.proofs.Common.{◌+◌, length, ap, ◌∙◌, sym, arith}
+use Rattle.std.proofs.Common.{length, ap, arith}
 use Rattle.std.specs.Prelude.{count_by, sum_by}
 use Rattle.std.proofs.lemmas.List.Sums.{sum_by_more, sum_by_more_le_part, count_by-le-length}
 use Rattle.dl_ir.specs.declared.names.Name.{Name}

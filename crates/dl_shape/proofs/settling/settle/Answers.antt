@@ -1,8 +1,6 @@
-use Rattle.std.proofs.Common.{◌≡◌, length, map, sym, ap, ◌∙◌, arith}
+use Rattle.std.proofs.Common.{sym, ap, ◌∙◌}
 use Rattle.std.specs.FinMap.{entries, len-entries}
 use Rattle.std.proofs.lemmas.List.{length-map}
-use Rattle.dl_ir.specs.Heap.{View}
-use Rattle.dl_ir.specs.Marks.{seal_marked}
 use Rattle.dl_shape.specs.Settling.{is_shared, trim}
 use Rattle.dl_shape.proofs.Marking.{sealed_marked}
 use Rattle.dl_shape.proofs.settling.settle.Goals as goal

@@ -1,4 +1,4 @@
-use Rattle.std.proofs.Common.{◌≡◌, sym, ap, ◌∙◌, arith}
+use Rattle.std.proofs.Common.{ap, ◌∙◌, arith}
 use Rattle.dl_ir.specs.Heap.{View}
 use Rattle.std.specs.FinMap as map
 use Rattle.dl_shape.proofs.Order.{loose_there, len_removed, trim_step}
