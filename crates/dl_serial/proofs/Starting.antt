@@ -1,5 +1,5 @@
 -- the start heap: no ticket, and no hidden object
-use Rattle.std.proofs.Common.{◌≡◌, ℕ, zero, suc, ◌+◌, ◌≤◌, Bool, true, false, cond, List, [], ◌∷◌, ◌++◌, refl, sym, ap, subst, ◌∙◌, max, fold, length, arith}
+use Rattle.std.proofs.Common.{◌≡◌, ℕ, zero, suc, ◌+◌, cond, List, [], ◌∷◌, ◌++◌, refl, sym, ap, subst, ◌∙◌, max, fold, length, arith}
 use Rattle.std.specs.Prelude.{nat_lt}
 use Rattle.std.specs.declared.cmp.Ordering.TheVariants.{Less, Equal, Greater}
 use Rattle.std.specs.FinMap as finite
@@ -12,7 +12,7 @@ use Rattle.dl_ir.specs.declared.objects.Obj.{Obj}
 use Rattle.dl_ir.specs.Heap.{name_cmp, roots_from, roots_of, blank_object, start_objects, hidden_count}
 use Rattle.dl_ir.proofs.NameOrder.{names_total}
 use Rattle.dl_shape.specs.Replay.{greatest_ticket}
-use Rattle.dl_serial.proofs.Counts.{Held, hidden_in, hidden_in-cons, one}
+use Rattle.dl_serial.proofs.Counts.{Held, hidden_in, hidden_in-cons}
 
 -- every entry is that of a root
 abbrev AreRoots : Held → Type 0

@@ -1,8 +1,8 @@
-ghost use Rattle.std.specs.Prelude.{◌≡◌, ◌∷◌, [], ℤ, pos, IfOk};
+ghost use Rattle.std.specs.Prelude.{◌≡◌, ◌∷◌, [], ℤ, pos, true, IfOk};
 ghost use Rattle.dl_ir.specs.CallForms.{IsCallOf};
 ghost use Rattle.dl_ir.specs.Heap.{HasStart};
 
-use crate::run_calls;
+use crate::{Served, run_calls};
 use dl_ir::{
     Answer, Call, Calls, End, Entry, Expr, FieldDecl, Heap, KindDecl, LocalDecl, Module, Op,
     OpDecl, Stmt, Ty,
@@ -128,13 +128,18 @@ fn entry(ticket: u64, index: u32, end: End) -> Entry {
     }
 }
 
+// What the two additions come to in a fresh heap.
+fn add_twice(alloc: Global, a: i64, b: i64) -> Result<Served, AllocError> {
+    let source = counter(alloc)?;
+    let mut heap = Heap::start(alloc, &source, 16)?;
+    let calls = additions(alloc, a, b)?;
+    run_calls(alloc, &source, &mut heap, 16, 1, &calls)
+}
+
 #[test]
 fn serial_adds_twice(rt: HostRuntime) -> Result<(), Fail> {
     let alloc = rt.alloc();
-    let source = counter(alloc)?;
-    let mut heap = Heap::start(alloc, &source, 16)?;
-    let calls = additions(alloc, 5, 7)?;
-    let served = run_calls(alloc, &source, &mut heap, 16, 1, &calls)?;
+    let served = add_twice(alloc, 5, 7)?;
     let want = [entry(1, 1, End::Ok(5)), entry(2, 2, End::Ok(12))];
     assert_eq!(rt; served.entries.as_slice(), want.as_slice());
     assert_eq!(rt; served.refusals.len(), 0);
@@ -145,10 +150,7 @@ fn serial_adds_twice(rt: HostRuntime) -> Result<(), Fail> {
 #[test]
 fn a_sum_overflows(rt: HostRuntime) -> Result<(), Fail> {
     let alloc = rt.alloc();
-    let source = counter(alloc)?;
-    let mut heap = Heap::start(alloc, &source, 16)?;
-    let calls = additions(alloc, i64::MAX, 1)?;
-    let served = run_calls(alloc, &source, &mut heap, 16, 1, &calls)?;
+    let served = add_twice(alloc, i64::MAX, 1)?;
     let want = [entry(1, 1, End::Ok(i64::MAX)), entry(2, 2, End::Overflow)];
     assert_eq!(rt; served.entries.as_slice(), want.as_slice());
     Ok(())
