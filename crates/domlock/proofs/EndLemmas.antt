@@ -1,5 +1,4 @@
-use Rattle.std.proofs.Common.{◌≡◌, ◌≢◌, ℕ, ◌<◌, ◌≤◌, List, [], Option, Some, None, refl, sym, ◌∙◌, ap, subst, arith}
-use Rattle.std.specs.Prelude.{◌↔◌}
+use Rattle.std.proofs.Common.{◌≡◌, ◌≢◌, ℕ, ◌+◌, ◌<◌, List, [], Some, None, refl, sym, ◌∙◌, ap, subst, arith}
 use Rattle.dl_io.specs.Source.{Source}
 use Rattle.dl_io.specs.Taken.{Taken, Took}
 use Rattle.dl_ir.specs.declared.answers.Entry.{Entry}
@@ -9,7 +8,7 @@ use Rattle.domlock.specs.declared.status.Status.{Status}
 use Rattle.domlock.specs.declared.status.Status.TheVariants as statuses
 use Rattle.domlock.specs.Causes.{NoModule, NoCalls, Refuses, Cut}
 use Rattle.domlock.specs.Promise.{Ran, Ends, Prints}
-use Rattle.domlock.specs.Reading.{ReadCause, IsTooLong, IsWithin}
+use Rattle.domlock.specs.Reading.{ReadCause, IsWithin}
 use Rattle.domlock.specs.Words.{Text, Task, limit_of, task_of_words}
 
 -- a status with which files are refused
@@ -23,23 +22,23 @@ IsRefusal (statuses.ModuleFault line why) = Unit {0}
 IsRefusal (statuses.OpsFault file line why) = Unit {0}
 IsRefusal statuses.Memory = Unit {0}
 
-read_refuses : (status : Status) {file : ℕ} {path : Text} {old new : Source} → ReadCause status file path old new → IsRefusal status
-read_refuses statuses.Done cause = cause
-read_refuses statuses.WriteFault cause = cause
-read_refuses statuses.Usage cause = cause
-read_refuses (statuses.ReadFault file) cause = tt
-read_refuses (statuses.TooLong file) cause = tt
-read_refuses (statuses.ModuleFault line why) cause = tt
-read_refuses (statuses.OpsFault file line why) cause = tt
-read_refuses statuses.Memory cause = tt
+read_refuses : (status : Status) (file : ℕ) (path : Text) (old new : Source) → ReadCause status file path old new → IsRefusal status
+read_refuses statuses.Done f path old new cause = cause
+read_refuses statuses.WriteFault f path old new cause = cause
+read_refuses statuses.Usage f path old new cause = cause
+read_refuses (statuses.ReadFault file) f path old new cause = tt
+read_refuses (statuses.TooLong file) f path old new cause = tt
+read_refuses (statuses.ModuleFault line why) f path old new cause = tt
+read_refuses (statuses.OpsFault file line why) f path old new cause = tt
+read_refuses statuses.Memory f path old new cause = tt
 
 module_refuses : {path : Text} {old new : Source} {status : Status} → NoModule path old new status → IsRefusal status
-module_refuses {status = status} (NoModule.unread cause) = read_refuses status cause
+module_refuses {path = path} {old = old} {new = new} {status = status} (NoModule.unread cause) = read_refuses status 0 path old new cause
 module_refuses (NoModule.no_memory is within) = subst IsRefusal (sym is) tt
 module_refuses (NoModule.at_fault line why text is told is_fault within) = subst IsRefusal (sym is) tt
 
 calls_refuse : {source : Module} {file : ℕ} {path : Text} {old new : Source} {status : Status} → NoCalls source file path old new status → IsRefusal status
-calls_refuse {status = status} (NoCalls.unread cause) = read_refuses status cause
+calls_refuse {file = file} {path = path} {old = old} {new = new} {status = status} (NoCalls.unread cause) = read_refuses status file path old new cause
 calls_refuse (NoCalls.no_memory is within) = subst IsRefusal (sym is) tt
 calls_refuse (NoCalls.at_fault line why text is told is_fault within) = subst IsRefusal (sym is) tt
 
@@ -49,40 +48,40 @@ refuses (Refuses.no_calls source before at path file files is cause) = calls_ref
 refuses (Refuses.no_memory is within) = subst IsRefusal (sym is) tt
 
 -- what is printed is printed by one of two statuses
-printed : {P : Type 0} (status : Status) {text : Text} {old new : Taken} → Prints status text old new → status ≢ statuses.Done → status ≢ statuses.WriteFault → P
-printed statuses.Done prints no_done no_fault = absurd (no_done refl)
-printed statuses.WriteFault prints no_done no_fault = absurd (no_fault refl)
-printed statuses.Usage prints no_done no_fault = absurd prints
-printed (statuses.ReadFault file) prints no_done no_fault = absurd prints
-printed (statuses.TooLong file) prints no_done no_fault = absurd prints
-printed (statuses.ModuleFault line why) prints no_done no_fault = absurd prints
-printed (statuses.OpsFault file line why) prints no_done no_fault = absurd prints
-printed statuses.Memory prints no_done no_fault = absurd prints
+printed : {P : Type 0} (status : Status) (text : Text) (old new : Taken) → Prints status text old new → status ≢ statuses.Done → status ≢ statuses.WriteFault → P
+printed statuses.Done text old new prints no_done no_fault = absurd (no_done refl)
+printed statuses.WriteFault text old new prints no_done no_fault = absurd (no_fault refl)
+printed statuses.Usage text old new prints no_done no_fault = absurd prints
+printed (statuses.ReadFault file) text old new prints no_done no_fault = absurd prints
+printed (statuses.TooLong file) text old new prints no_done no_fault = absurd prints
+printed (statuses.ModuleFault line why) text old new prints no_done no_fault = absurd prints
+printed (statuses.OpsFault file line why) text old new prints no_done no_fault = absurd prints
+printed statuses.Memory text old new prints no_done no_fault = absurd prints
 
 -- where reading stopped and more than the limit was taken, the file was too long
-read_long : (status : Status) {f : ℕ} {path : Text} {old new : Source} (file : ℕ) → ReadCause status f path old new →
+read_long : (status : Status) (f : ℕ) (path : Text) (old new : Source) (file : ℕ) → ReadCause status f path old new →
     new.attached ≡ Some file → limit_of file < new.given → status ≡ statuses.TooLong file
-read_long statuses.Done file cause is more = absurd cause
-read_long statuses.WriteFault file cause is more = absurd cause
-read_long statuses.Usage file cause is more = absurd cause
-read_long (statuses.ReadFault f) file cause is more = let short = cause.2 file is in absurd (omega (arith, short, more))
-read_long (statuses.TooLong f) file cause is more = let e = cause.1.attached in cc
-read_long (statuses.ModuleFault line why) file cause is more = absurd cause
-read_long (statuses.OpsFault f line why) file cause is more = absurd cause
-read_long statuses.Memory file cause is more = let short = cause file is in absurd (omega (arith, short, more))
+read_long statuses.Done g path old new file cause is more = absurd cause
+read_long statuses.WriteFault g path old new file cause is more = absurd cause
+read_long statuses.Usage g path old new file cause is more = absurd cause
+read_long (statuses.ReadFault f) g path old new file cause is more = let short = cause.2 file is in absurd (omega (arith, short, more))
+read_long (statuses.TooLong f) g path old new file cause is more = let e = cause.1.attached in cc
+read_long (statuses.ModuleFault line why) g path old new file cause is more = absurd cause
+read_long (statuses.OpsFault f line why) g path old new file cause is more = absurd cause
+read_long statuses.Memory g path old new file cause is more = let short = cause file is in absurd (omega (arith, short, more))
 
-within_long : {P : Type 0} {new : Source} (file : ℕ) → IsWithin new → new.attached ≡ Some file → limit_of file < new.given → P
-within_long file within is more = let short = within file is in absurd (omega (arith, short, more))
+within_long : {P : Type 0} (new : Source) (file : ℕ) → IsWithin new → new.attached ≡ Some file → limit_of file < new.given → P
+within_long new file within is more = let short = within file is in absurd (omega (arith, short, more))
 
 refused_long : {task : Task} {old new : Source} {status : Status} (file : ℕ) → Refuses task old new status → new.attached ≡ Some file →
     limit_of file < new.given → status ≡ statuses.TooLong file
-refused_long {status = status} file (Refuses.no_module (NoModule.unread cause)) is more = read_long status file cause is more
-refused_long file (Refuses.no_module (NoModule.no_memory e within)) is more = within_long file within is more
-refused_long file (Refuses.no_module (NoModule.at_fault line why text e told is_fault within)) is more = within_long file within is more
-refused_long {status = status} file (Refuses.no_calls source before at path source_file files is_path (NoCalls.unread cause)) is more = read_long status file cause is more
-refused_long file (Refuses.no_calls source before at path source_file files is_path (NoCalls.no_memory e within)) is more = within_long file within is more
-refused_long file (Refuses.no_calls source before at path source_file files is_path (NoCalls.at_fault line why text e told is_fault within)) is more = within_long file within is more
-refused_long file (Refuses.no_memory e within) is more = within_long file within is more
+refused_long {task = task} {old = old} {new = new} {status = status} file (Refuses.no_module (NoModule.unread cause)) is more = read_long status 0 task.first old new file cause is more
+refused_long {new = new} file (Refuses.no_module (NoModule.no_memory e within)) is more = within_long new file within is more
+refused_long {new = new} file (Refuses.no_module (NoModule.at_fault line why text e told is_fault within)) is more = within_long new file within is more
+refused_long {old = old} {new = new} {status = status} file (Refuses.no_calls source before at path source_file files is_path (NoCalls.unread cause)) is more = read_long status (at + 1) path old new file cause is more
+refused_long {new = new} file (Refuses.no_calls source before at path source_file files is_path (NoCalls.no_memory e within)) is more = within_long new file within is more
+refused_long {new = new} file (Refuses.no_calls source before at path source_file files is_path (NoCalls.at_fault line why text e told is_fault within)) is more = within_long new file within is more
+refused_long {new = new} file (Refuses.no_memory e within) is more = within_long new file within is more
 
 -- the clauses of a call that ends so
 module _ {words : List Text} {old new : Source} {before after : Taken} {status : Status} {history : List Entry} {refusals : List Refusal} where
@@ -102,7 +101,7 @@ module _ {words : List Text} {old new : Source} {before after : Taken} {status :
       (after ≡ before) × (history ≡ []) × (refusals ≡ [])
   ends_nothing (Ends.usage is none same same_taken no_history no_refusals) no_done no_fault = (same_taken, no_history, no_refusals)
   ends_nothing (Ends.refused task is_task cause same_taken no_history no_refusals) no_done no_fault = (same_taken, no_history, no_refusals)
-  ends_nothing (Ends.ran text ran within prints) no_done no_fault = printed status prints no_done no_fault
+  ends_nothing (Ends.ran text ran within prints) no_done no_fault = printed status text before after prints no_done no_fault
 
   pub ends_usage : Ends words old new before after status history refusals → status ≡ statuses.Usage → task_of_words words ≡ None
   ends_usage (Ends.usage is none same same_taken no_history no_refusals) usage = none
@@ -118,11 +117,11 @@ module _ {words : List Text} {old new : Source} {before after : Taken} {status :
       (task : Task) × (task_of_words words ≡ Some task) × Refuses task old new status
   ends_cause (Ends.usage is none same same_taken no_history no_refusals) no_done no_fault no_usage = absurd (no_usage is)
   ends_cause (Ends.refused task is_task cause same_taken no_history no_refusals) no_done no_fault no_usage = (task, is_task, cause)
-  ends_cause (Ends.ran text ran within prints) no_done no_fault no_usage = printed status prints no_done no_fault
+  ends_cause (Ends.ran text ran within prints) no_done no_fault no_usage = printed status text before after prints no_done no_fault
 
   pub ends_long : Ends words old new before after status history refusals → old.given ≡ 0 → (file : ℕ) → new.attached ≡ Some file →
       limit_of file < new.given → status ≡ statuses.TooLong file
   ends_long (Ends.usage is none same same_taken no_history no_refusals) begins file attached more =
       let e = ap (λ (s : Source). s.given) same in absurd (omega (arith, e, begins, more))
   ends_long (Ends.refused task is_task cause same_taken no_history no_refusals) begins file attached more = refused_long file cause attached more
-  ends_long (Ends.ran text ran within prints) begins file attached more = within_long file within attached more
+  ends_long (Ends.ran text ran within prints) begins file attached more = within_long new file within attached more

@@ -2,4 +2,6 @@ mod EndLemmas
 mod FileLemmas
 mod LoadingLemmas
 mod ReadingLemmas
+mod RunLemmas
 mod WordLemmas
+mod WritingEnds

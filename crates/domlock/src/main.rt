@@ -6,6 +6,8 @@ mod loading;
 mod reading;
 mod run;
 mod status;
+#[cfg(test)]
+mod tests;
 mod top;
 mod words;
 

@@ -1,4 +1,4 @@
-ghost use Rattle.std.specs.Prelude.{◌≡◌, ◌≢◌, ◌↔◌, ◌<◌, ℕ, [], Some, None};
+ghost use Rattle.std.specs.Prelude.{◌≡◌, ◌≢◌, ◌↔◌, ◌<◌, ℕ, List, [], Some, None};
 ghost use Rattle.dl_io.specs.Taken.{Took};
 ghost use Rattle.domlock.specs.Causes.{Refuses, Cut};
 ghost use Rattle.domlock.specs.Promise.{Ran, Ends};

@@ -5,8 +5,8 @@ pub returns : goal.returns
 returns g c = let ends = c.run_still.ensures in record {
   done = ends_done ends;
   write_fault = ends_cut ends;
-  nothing = ?;
-  usage = ?;
+  nothing = ends_nothing ends;
+  usage = (ends_usage ends, ends_no_task ends);
   causes = ends_cause ends;
   too_long = ends_long ends;
 }
