@@ -1,0 +1,7 @@
+use Rattle.std.proofs.Common.{refl}
+use Rattle.dl_grammar.proofs.Rules.{good_then}
+use Rattle.dl_grammar.proofs.Repeats.{good_many}
+use Rattle.dl_grammar.proofs.probe.probing.Goals as goal
+
+pub returns : goal.returns
+returns c = refl

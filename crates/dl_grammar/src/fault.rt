@@ -1,0 +1,31 @@
+use std::alloc::{AllocError, AllocFailed};
+
+/// A limit of module texts that is counted.
+#[derive(Clone, Copy, Debug, PartialEq, Eq)]
+pub enum Which {
+    Kinds,
+    Fields,
+    Ops,
+    Locals,
+    Roots,
+    Allocs,
+    Fuel,
+    Literal,
+    Operators,
+}
+
+/// A limit of module texts.
+#[derive(Clone, Copy, Debug, PartialEq, Eq)]
+pub(crate) enum Bound {
+    /// The levels of blocks, brackets and minus signs.
+    Levels,
+    Limit(Which),
+}
+
+/// Why reading stops, at the token where it stands.
+#[derive(Clone, Copy, Debug, PartialEq, Eq)]
+pub(crate) enum Fault {
+    Expected,
+    Passed(Bound),
+    Memory,
+}

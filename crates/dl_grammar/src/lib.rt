@@ -1,0 +1,11 @@
+//! The module language: its trees, and the reader of module texts.
+#![tactic(auto)]
+
+mod fault;
+mod lexeme;
+mod probe;
+mod tree;
+
+pub use fault::Which;
+pub use probe::probing;
+pub use tree::{Rhs, Side, Tree, TreeBlock, TreeCond, TreeExpr, TreeField, TreeKind, TreeOp, TreeStmt, What, Word};
