@@ -1,3 +1,4 @@
 pub mod Good
 pub mod Rules
 pub mod Repeats
+pub mod Exact

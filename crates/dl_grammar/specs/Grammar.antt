@@ -111,6 +111,15 @@ repeat_from test step (suc n) a ts = if test (ahead ts) then and_then (step a ts
 unfoldable pub repeat : {A : Type 0} → (Ahead → Bool) → (A → Reader A) → A → Reader A
 repeat test step a ts = repeat_from test step (length ts) a ts
 
+-- what a reader makes of a whole text: behind it nothing may be left
+abbrev pub nothing_left : {A : Type 0} → A → List Lexeme → Result A (Fault × List Lexeme)
+nothing_left a [] = Ok a
+nothing_left a (t ∷ rest) = Err (fault.Expected, t ∷ rest)
+
+abbrev pub finish : {A : Type 0} → Outcome A → Result A (Fault × List Lexeme)
+finish (Ok x) = nothing_left x.0 x.1
+finish (Err e) = Err e
+
 -- what a function answers is what the reader makes of the lexemes, unless memory runs out
 abbrev pub Gives : {A : Type 0} → Outcome A → Result A Fault → List Lexeme → Type 0
 Gives outcome (Ok a) new = outcome ≡ Ok (a, new)
