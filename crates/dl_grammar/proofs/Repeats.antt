@@ -83,7 +83,7 @@ module _ {A : Type 0} (test : Ahead → Bool) {step : A → Reader A} {N : A →
 
   module _ (end : Ahead → Bool) (stops : (o : Ahead) → end o ≡ true → test o ≡ false) (may_end : (o : Ahead) → end o ≡ true → may o ≡ true) (may_turn : (o : Ahead) → test o ≡ true → may o ≡ true) where
     -- what follows a turn: another one, or the end
-    follow : (a : A) (e : Ending A) (ws rest : List Lexeme) → Many N a e ws → Follows end e rest → may (ahead (ws ++ tail e rest)) ≡ true
+    pub follow : (a : A) (e : Ending A) (ws rest : List Lexeme) → Many N a e ws → Follows end e rest → may (ahead (ws ++ tail e rest)) ≡ true
     follow a _ _ rest (NoMore) h = may_end (ahead rest) h
     follow a e _ rest (OneMore {xs = xs} {ys = ys} b is next) h = may_turn _ (ap (λ ts. test (ahead ts)) (append_assoc xs ys (tail e rest)) ∙ starts a (Read b) xs (ys ++ tail e rest) is)
     follow a _ ws rest (CutShort {b = b} {t} is) h = may_turn _ (starts a (Passed b t) ws rest is)
