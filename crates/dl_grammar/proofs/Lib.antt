@@ -5,3 +5,4 @@ pub mod Exact
 pub mod Tried
 pub mod Lexemes
 pub mod Expressions
+pub mod Sides
