@@ -161,3 +161,41 @@ good_as {A} {p} {q} {L} {M} {may} g same to back = record {
   reads = λ ts. subst (ReadsAt q M ts) (sym (same ts)) (reads_as same to ts (p ts) (g.reads ts));
   complete = λ e ws is rest h. same (ws ++ tail e rest) ∙ g.complete e ws (back e ws is) rest h;
 }
+
+-- ---- a rule whose texts are told apart by what comes first, once they are written otherwise
+abbrev pub Chosen : Bool → Type 0 → Type 0 → Type 0
+Chosen true X Y = X
+Chosen false X Y = Y
+
+module _ {A : Type 0} (test : Ahead → Bool) {p q : Reader A} {L M W : Rule A} {may : Ahead → Bool} (left : Good p L may) (right : Good q M may)
+    (from_left : (e : Ending A) (ws : List Lexeme) → L e ws → W e ws) (from_right : (e : Ending A) (ws : List Lexeme) → M e ws → W e ws)
+    (apart : (e : Ending A) (ws rest : List Lexeme) → W e ws → (b : Bool) → test (ahead (ws ++ tail e rest)) ≡ b → Chosen b (L e ws) (M e ws)) where
+
+  picks : (ts : List Lexeme) (b : Bool) → test (ahead ts) ≡ b → choose test p q ts ≡ cond b (p ts) (q ts)
+  picks ts b h = ap (λ x. cond x (p ts) (q ts)) h
+
+  stays : (ts ws rest more : List Lexeme) (b : Bool) → test (ahead ts) ≡ b → ts ≡ ws ++ rest → ahead more ≡ ahead rest → test (ahead (ws ++ more)) ≡ b
+  stays ts ws rest more b h split same = ap test (ahead-append ws more rest same ∙ ap ahead (sym split)) ∙ h
+
+  left_reads : (ts : List Lexeme) → test (ahead ts) ≡ true → (o : Outcome A) → ReadsAt p L ts o → ReadsAt (choose test p q) W ts o
+  left_reads ts h (Ok x) r = record { ws = r.ws; splits = r.splits; text = from_left (Read x.0) r.ws r.text; again = λ more same. picks (r.ws ++ more) true (stays ts r.ws x.1 more true h r.splits same) ∙ r.again more same }
+  left_reads ts h (Err x) r = record { ws = r.ws; splits = r.splits; stops = stops_as from_left x.0 r.ws x.1 r.stops; again = λ more same. picks (r.ws ++ more) true (stays ts r.ws x.1 more true h r.splits same) ∙ r.again more same }
+
+  right_reads : (ts : List Lexeme) → test (ahead ts) ≡ false → (o : Outcome A) → ReadsAt q M ts o → ReadsAt (choose test p q) W ts o
+  right_reads ts h (Ok x) r = record { ws = r.ws; splits = r.splits; text = from_right (Read x.0) r.ws r.text; again = λ more same. picks (r.ws ++ more) false (stays ts r.ws x.1 more false h r.splits same) ∙ r.again more same }
+  right_reads ts h (Err x) r = record { ws = r.ws; splits = r.splits; stops = stops_as from_right x.0 r.ws x.1 r.stops; again = λ more same. picks (r.ws ++ more) false (stays ts r.ws x.1 more false h r.splits same) ∙ r.again more same }
+
+  picked_reads : (ts : List Lexeme) (b : Bool) → test (ahead ts) ≡ b → ReadsAt (choose test p q) W ts (cond b (p ts) (q ts))
+  picked_reads ts true h = left_reads ts h (p ts) (left.reads ts)
+  picked_reads ts false h = right_reads ts h (q ts) (right.reads ts)
+
+  picked_complete : (e : Ending A) (ws rest : List Lexeme) → Follows may e rest → (b : Bool) → test (ahead (ws ++ tail e rest)) ≡ b → Chosen b (L e ws) (M e ws) → choose test p q (ws ++ tail e rest) ≡ answer e rest
+  picked_complete e ws rest h true t is = picks (ws ++ tail e rest) true t ∙ left.complete e ws is rest h
+  picked_complete e ws rest h false t is = picks (ws ++ tail e rest) false t ∙ right.complete e ws is rest h
+
+  pub good_branch : Good (choose test p q) W may
+  good_branch = record {
+    some = record { ending = left.some.ending; words = left.some.words; is = from_left left.some.ending left.some.words left.some.is };
+    reads = λ ts. picked_reads ts (test (ahead ts)) refl;
+    complete = λ e ws is rest h. picked_complete e ws rest h (test (ahead (ws ++ tail e rest))) refl (apart e ws rest is (test (ahead (ws ++ tail e rest))) refl);
+  }
