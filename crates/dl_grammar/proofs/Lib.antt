@@ -6,3 +6,4 @@ pub mod Tried
 pub mod Lexemes
 pub mod Expressions
 pub mod Sides
+pub mod Statements
