@@ -7,3 +7,4 @@ pub mod Lexemes
 pub mod Expressions
 pub mod Sides
 pub mod Statements
+pub mod Declarations

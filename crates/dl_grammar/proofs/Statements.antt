@@ -24,7 +24,7 @@ use Rattle.dl_grammar.specs.Readers.{comes, starts_statement, starts_kind}
 use Rattle.dl_grammar.proofs.Good.{tail, Follows, Good, any, good_pure, good_one}
 use Rattle.dl_grammar.proofs.Rules.{Starts, starts_one, starts_then, starts_or, good_narrow, good_then, good_follow, good_choose}
 use Rattle.dl_grammar.proofs.Repeats.{good_many}
-use Rattle.dl_grammar.proofs.Lexemes.{sample, seen, good_fixed, good_word, good_map, good_before, starts_fixed, starts_name, starts_number}
+use Rattle.dl_grammar.proofs.Lexemes.{sample, seen, fixed_is_in, good_fixed, good_word, good_map, good_before, starts_fixed, starts_name, starts_number}
 use Rattle.dl_grammar.proofs.Expressions.{ends_sum, good_expression}
 use Rattle.dl_grammar.proofs.Sides.{good_name, good_side, good_condition, good_right_side, ends_right, many_shows}
 
@@ -65,19 +65,16 @@ good_returning room = good_then (good_word f.Return refl) (λ l. good_before (go
 abbrev pub StatementStarts : Rule TreeStmt → Type 0
 StatementStarts S = Starts S starts_statement true
 
-brace : Ahead → Bool
-brace o = comes (fixed f.RBrace) o
-
 -- where a brace closes a block no statement begins, and no else block
 abbrev pub closes : Ahead → Bool
 closes o = comes (fixed f.RBrace) o
 
-brace_shows : (test : Ahead → Bool) (b : Bool) → ((line : ℕ) → seen test (lexis.Fixed f.RBrace) line ≡ b) → (o : Ahead) → closes o ≡ true → test o ≡ b
+pub brace_shows : (test : Ahead → Bool) (b : Bool) → ((line : ℕ) → seen test (lexis.Fixed f.RBrace) line ≡ b) → (o : Ahead) → closes o ≡ true → test o ≡ b
 brace_shows test b h None is = absurd (cc)
 brace_shows test b h (Some t) is = shows t.lexis t.line (rule.fixed_in f.RBrace t.lexis t.line) refl is
   where
     shows : (x : Lexis) (line : ℕ) (o : Option ℕ) → rule.fixed_in f.RBrace x line ≡ o → is_some o ≡ true → seen test x line ≡ b
-    shows x line (Some l) eq k = ap (λ y. seen test y line) (Rattle.dl_grammar.proofs.Lexemes.fixed_is_in f.RBrace x line l eq) ∙ h line
+    shows x line (Some l) eq k = ap (λ y. seen test y line) (fixed_is_in f.RBrace x line l eq) ∙ h line
     shows x line None eq k = absurd (cc)
 
 -- where a statement begins there is no else
