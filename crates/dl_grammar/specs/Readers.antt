@@ -189,3 +189,15 @@ ops = repeat (comes (fixed f.Op)) op_behind []
 
 unfoldable pub module_text : Reader Declared
 module_text = word f.Domlock >>= λ l. one version free >>= λ v. kinds >>= λ ks. ops >>= λ os. pure (record { version = v; kinds = ks.0; ops = os })
+
+-- ---- the levels below
+
+-- a factor one level below
+abbrev pub below : ℕ → ℕ → Reader Counted
+below zero used = choose (comes number) (literal used) (variable used)
+below (suc room) used = factor room used
+
+-- a statement one level below
+abbrev pub statement_below : ℕ → Reader TreeStmt
+statement_below zero = returning zero
+statement_below (suc room) = statement room

@@ -1,4 +1,7 @@
-use std::alloc::{AllocError, AllocFailed};
+ghost use Rattle.std.specs.Prelude.{◌≡◌};
+ghost use Rattle.dl_grammar.specs.declared.fault.Fault.TheVariants.{Memory};
+
+use std::alloc::AllocError;
 
 /// A limit of module texts that is counted.
 #[derive(Clone, Copy, Debug, PartialEq, Eq)]
@@ -28,4 +31,12 @@ pub(crate) enum Fault {
     Expected,
     Passed(Bound),
     Memory,
+}
+
+impl From<AllocError> for Fault {
+    ghost from_gives = { λ _ e. e ≡ Memory };
+
+    fn from(_fault: AllocError) -> Fault {
+        Fault::Memory
+    }
 }

@@ -1,6 +1,7 @@
 //! The module language: its trees, and the reader of module texts.
 #![tactic(auto)]
 
+mod cursor;
 mod fault;
 mod lexeme;
 mod probe;

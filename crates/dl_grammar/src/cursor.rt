@@ -1,0 +1,108 @@
+ghost use Rattle.std.specs.Prelude.{◌≡◌, ◌≤◌, ◌<◌, OnOk, IfOk};
+ghost use Rattle.dl_grammar.specs.Grammar.{Gives, ahead, one};
+ghost use Rattle.dl_grammar.specs.Rules as rule;
+ghost use Rattle.dl_grammar.specs.Readers.{comes};
+
+use crate::fault::{Bound, Fault, Which};
+use crate::lexeme::{Fixed, Lexeme, Lexis};
+use crate::tree::Word;
+use dl_ir::{Op, Rel};
+use sqlite_items::Items;
+use std::alloc::Global;
+
+/// The lexemes of a module text that are still to be read. Where reading stops with a fault, the lexeme at fault
+/// comes next.
+#[derive(Drop)]
+pub(crate) struct Cursor<'a> {
+    pub(crate) rest: &'a [Lexeme],
+}
+
+impl Cursor<'_> {
+    pub(crate) fn at(&self, fixed: Fixed) -> bool
+        ensures { result ≡ comes (rule.fixed fixed) (ahead self.now.rest.now) }
+    {
+        match self.rest {
+            [Lexeme { lexis: Lexis::Fixed(found), .. }, ..] => fixed == *found,
+            _ => false,
+        }
+    }
+
+    pub(crate) fn at_name(&self) -> bool
+        ensures { result ≡ comes rule.name (ahead self.now.rest.now) }
+    {
+        matches!(self.rest, [Lexeme { lexis: Lexis::Name(_), .. }, ..])
+    }
+
+    pub(crate) fn at_number(&self) -> bool
+        ensures { result ≡ comes rule.number (ahead self.now.rest.now) }
+    {
+        matches!(self.rest, [Lexeme { lexis: Lexis::One | Lexis::Number(_), .. }, ..])
+    }
+
+    pub(crate) fn word(&mut self, fixed: Fixed) -> Result<u32, Fault>
+        ensures { Gives (one (rule.fixed fixed) rule.free self.old.rest.now) result self.new.rest.now }
+    {
+        match self.rest {
+            [Lexeme { lexis: Lexis::Fixed(found), line }, rest @ ..] if fixed == *found => {
+                self.rest = rest;
+                Ok(*line)
+            }
+            _ => Err(Fault::Expected),
+        }
+    }
+
+    /// A symbol that opens a level, where so many more may open.
+    pub(crate) fn open(&mut self, fixed: Fixed, room: u32) -> Result<u32, Fault>
+        ensures opens { Gives (one (rule.fixed fixed) (rule.level room) self.old.rest.now) result self.new.rest.now }
+        ensures room { OnOk result (0 < room) }
+    {
+        match self.rest {
+            [Lexeme { lexis: Lexis::Fixed(found), line }, rest @ ..] if fixed == *found => {
+                if room == 0 {
+                    return Err(Fault::Passed(Bound::Levels));
+                }
+                self.rest = rest;
+                Ok(*line)
+            }
+            _ => Err(Fault::Expected),
+        }
+    }
+
+    pub(crate) fn name(&mut self, alloc: Global) -> Result<Word, Fault>
+        ensures { Gives (one rule.name rule.free self.old.rest.now) result self.new.rest.now }
+    {
+        match self.rest {
+            [Lexeme { lexis: Lexis::Name(text), line }, rest @ ..] => {
+                let text = Items::from_slice(alloc, text.as_slice())?;
+                self.rest = rest;
+                Ok(Word { text, line: *line })
+            }
+            _ => Err(Fault::Expected),
+        }
+    }
+
+    /// A number of an expression.
+    pub(crate) fn literal(&mut self) -> Result<u64, Fault>
+        ensures reads { Gives (one rule.number (rule.at_most 9223372036854775807 (Bound.Limit Which.Literal)) self.old.rest.now) result self.new.rest.now }
+        ensures most { IfOk result (λ n. n ≤ 9223372036854775807) }
+    {
+        self.number(9223372036854775807, Bound::Limit(Which::Literal))
+    }
+
+    /// A number that is at most `most`; a greater one passes the limit.
+    pub(crate) fn number(&mut self, most: u64, bound: Bound) -> Result<u64, Fault>
+        ensures reads { Gives (one rule.number (rule.at_most most bound) self.old.rest.now) result self.new.rest.now }
+        ensures most { IfOk result (λ n. n ≤ most) }
+    {
+        let (number, rest) = match self.rest {
+            [Lexeme { lexis: Lexis::One, .. }, rest @ ..] => (1, rest),
+            [Lexeme { lexis: Lexis::Number(number), .. }, rest @ ..] => (*number, rest),
+            _ => return Err(Fault::Expected),
+        };
+        if most < number {
+            return Err(Fault::Passed(bound));
+        }
+        self.rest = rest;
+        Ok(number)
+    }
+}
