@@ -3,8 +3,9 @@ pub mod Rules
 pub mod Repeats
 pub mod Exact
 pub mod Tried
-pub mod Lexemes
-pub mod Expressions
-pub mod Sides
-pub mod Statements
-pub mod Declarations
+pub mod GoodLexemes
+pub mod GoodExpressions
+pub mod GoodSides
+pub mod GoodStatements
+pub mod GoodDeclarations
+pub mod Steps

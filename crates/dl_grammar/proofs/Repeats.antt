@@ -14,7 +14,7 @@ module _ {A : Type 0} (test : Ahead → Bool) {step : A → Reader A} {N : A →
   takes a b [] is = absurd (let h = starts a (Read b) [] [] is in cc)
   takes a b (w ∷ ws) is = omega arith
 
-  shrinks : (a : A) (ts : List Lexeme) (b : A) (rest : List Lexeme) → step a ts ≡ Ok (b, rest) → length rest < length ts
+  pub shrinks : (a : A) (ts : List Lexeme) (b : A) (rest : List Lexeme) → step a ts ≡ Ok (b, rest) → length rest < length ts
   shrinks a ts b rest is =
       let r : ReadAt (step a) (N a) ts b rest = subst (ReadsAt (step a) (N a) ts) is ((turns a).reads ts) in
       omega (arith, takes a b r.ws r.text, ap length r.splits, length-append r.ws rest)

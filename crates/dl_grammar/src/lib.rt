@@ -2,6 +2,7 @@
 #![tactic(auto)]
 
 mod cursor;
+mod expressions;
 mod fault;
 mod lexeme;
 mod probe;

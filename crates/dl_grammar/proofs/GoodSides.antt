@@ -25,8 +25,8 @@ use Rattle.dl_grammar.specs.Readers as read
 use Rattle.dl_grammar.specs.Readers.{comes}
 use Rattle.dl_grammar.proofs.Good.{answer, tail, Follows, ReadsAt, Good, any, good_pure, good_one}
 use Rattle.dl_grammar.proofs.Rules.{Starts, starts_one, starts_then, starts_or, good_narrow, good_then, good_follow, good_choose, good_as, Chosen, good_branch}
-use Rattle.dl_grammar.proofs.Lexemes.{sample, seen, good_fixed, good_word, good_map, good_before, starts_fixed, starts_name, starts_number, starts_relation, starts_scaling, starts_adding}
-use Rattle.dl_grammar.proofs.Expressions.{Shows, ends_sum, ends_term, good_expression, expression_starts, good_term_behind, good_sum_behind, good_factor, behind_term}
+use Rattle.dl_grammar.proofs.GoodLexemes.{sample, seen, good_fixed, good_word, good_map, good_before, starts_fixed, starts_name, starts_number, starts_relation, starts_scaling, starts_adding}
+use Rattle.dl_grammar.proofs.GoodExpressions.{Shows, ends_sum, ends_term, good_expression, expression_starts, good_term_behind, good_sum_behind, good_factor, behind_term}
 
 -- a name, with any limit
 pub good_name : Good (one name free) (One name free) any

@@ -24,9 +24,9 @@ use Rattle.dl_grammar.specs.Readers.{comes, starts_statement, starts_kind}
 use Rattle.dl_grammar.proofs.Good.{tail, Follows, Good, any, good_pure, good_one}
 use Rattle.dl_grammar.proofs.Rules.{Starts, starts_one, starts_then, starts_or, good_narrow, good_then, good_follow, good_choose}
 use Rattle.dl_grammar.proofs.Repeats.{good_many}
-use Rattle.dl_grammar.proofs.Lexemes.{sample, seen, good_fixed, good_word, good_map, good_before, starts_fixed, starts_name, starts_number}
-use Rattle.dl_grammar.proofs.Sides.{good_name, many_shows}
-use Rattle.dl_grammar.proofs.Statements.{good_statement, statement_shows, good_statements, closes, brace_shows}
+use Rattle.dl_grammar.proofs.GoodLexemes.{sample, seen, good_fixed, good_word, good_map, good_before, starts_fixed, starts_name, starts_number}
+use Rattle.dl_grammar.proofs.GoodSides.{good_name, many_shows}
+use Rattle.dl_grammar.proofs.GoodStatements.{good_statement, statement_shows, good_statements, closes, brace_shows}
 
 
 abbrev some_word : Word

@@ -24,9 +24,9 @@ use Rattle.dl_grammar.specs.Readers.{comes, starts_statement, starts_kind}
 use Rattle.dl_grammar.proofs.Good.{tail, Follows, Good, any, good_pure, good_one}
 use Rattle.dl_grammar.proofs.Rules.{Starts, starts_one, starts_then, starts_or, good_narrow, good_then, good_follow, good_choose}
 use Rattle.dl_grammar.proofs.Repeats.{good_many}
-use Rattle.dl_grammar.proofs.Lexemes.{sample, seen, fixed_is_in, good_fixed, good_word, good_map, good_before, starts_fixed, starts_name, starts_number}
-use Rattle.dl_grammar.proofs.Expressions.{ends_sum, good_expression}
-use Rattle.dl_grammar.proofs.Sides.{good_name, good_side, good_condition, good_right_side, ends_right, many_shows}
+use Rattle.dl_grammar.proofs.GoodLexemes.{sample, seen, fixed_is_in, good_fixed, good_word, good_map, good_before, starts_fixed, starts_name, starts_number}
+use Rattle.dl_grammar.proofs.GoodExpressions.{ends_sum, good_expression}
+use Rattle.dl_grammar.proofs.GoodSides.{good_name, good_side, good_condition, good_right_side, ends_right, many_shows}
 
 -- a word or symbol behind a text
 word_shows : (g : Fixed) (test : Ahead → Bool) (b : Bool) → ((line : ℕ) → seen test (lexis.Fixed g) line ≡ b) → Starts (rule.word g) test b

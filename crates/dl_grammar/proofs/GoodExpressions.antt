@@ -21,7 +21,7 @@ use Rattle.dl_grammar.specs.Readers.{comes}
 use Rattle.dl_grammar.proofs.Good.{answer, tail, Follows, Good, any, good_pure, good_one}
 use Rattle.dl_grammar.proofs.Rules.{Starts, starts_one, starts_then, starts_or, good_narrow, good_then, good_follow, good_choose}
 use Rattle.dl_grammar.proofs.Repeats.{good_many, follow}
-use Rattle.dl_grammar.proofs.Lexemes.{sample, seen, good_fixed, good_word, good_map, good_before, starts_fixed, starts_name, starts_number, starts_adding, starts_scaling}
+use Rattle.dl_grammar.proofs.GoodLexemes.{sample, seen, good_fixed, good_word, good_map, good_before, starts_fixed, starts_name, starts_number, starts_adding, starts_scaling}
 
 -- no operator of a term comes next, and none of a sum
 abbrev pub ends_term : Ahead → Bool
@@ -72,12 +72,12 @@ good_variable used = good_map (λ w. let x : Counted = (e.Name w, used) in x) (g
 
 -- ---- operations, over good readers of factors
 module _ {reader : ℕ → Reader Counted} {factor : ℕ → Rule Counted} (good : (used : ℕ) → Good (reader used) (factor used) any) where
-  scaled : (left : Counted) → Good (read.operation scaling reader left) (rule.operation scaling factor left) any
+  pub scaled : (left : Counted) → Good (read.operation scaling reader left) (rule.operation scaling factor left) any
   unfolding read.operation
   scaled left = good_then (good_one scaling (one_more 256 left.1 (Limit which.Operators)) (sample (lexis.Fixed f.Star)) op.Mul refl)
       (λ o. good_map (λ (x : Counted). let y : Counted = (e.Bin o left.0 x.0, x.1) in y) (good (left.1 + 1)))
 
-  scaled_starts : (left : Counted) → Starts (rule.operation scaling factor left) (comes scaling) true
+  pub scaled_starts : (left : Counted) → Starts (rule.operation scaling factor left) (comes scaling) true
   scaled_starts left = starts_then _ _ (comes scaling) true (starts_scaling (one_more 256 left.1 (Limit which.Operators)) (comes scaling) true (λ g line h. h))
 
   always : (o : Ahead) → ends_term o ≡ true → any o ≡ true
@@ -94,12 +94,12 @@ module _ {reader : ℕ → Reader Counted} {factor : ℕ → Rule Counted} (good
   unfolding read.term
   good_term used = good_then (good used) good_term_behind
 
-  added : (left : Counted) → Good (read.operation adding (read.term reader) left) (rule.operation adding (rule.term factor) left) ends_term
+  pub added : (left : Counted) → Good (read.operation adding (read.term reader) left) (rule.operation adding (rule.term factor) left) ends_term
   unfolding read.operation
   added left = good_then (good_one adding (one_more 256 left.1 (Limit which.Operators)) (sample (lexis.Fixed f.Plus)) op.Add refl)
       (λ o. good_map (λ (x : Counted). let y : Counted = (e.Bin o left.0 x.0, x.1) in y) (good_term (left.1 + 1)))
 
-  added_starts : (left : Counted) → Starts (rule.operation adding (rule.term factor) left) (comes adding) true
+  pub added_starts : (left : Counted) → Starts (rule.operation adding (rule.term factor) left) (comes adding) true
   added_starts left = starts_then _ _ (comes adding) true (starts_adding (one_more 256 left.1 (Limit which.Operators)) (comes adding) true (λ line. refl) (λ line. refl))
 
   pub good_sum_behind : (x : Counted) → Good (read.sum_behind reader x) (Many (rule.operation adding (rule.term factor)) x) ends_sum
