@@ -11,10 +11,12 @@ use Rattle.dl_grammar.proofs.Repeats.{turn_stops, turn_goes, shrinks}
 use Rattle.dl_grammar.proofs.GoodExpressions.{scaled, scaled_starts, added, added_starts, good_factor}
 
 pub factor_is : (room used : ℕ) (ts : List Lexeme) → read.factor room used ts ≡ read.factor_over room (read.below room) used ts
+unfolding read.below
 factor_is zero used ts = refl
 factor_is (suc room) used ts = refl
 
 below_at : (room less : ℕ) → room ≡ suc less → read.below room ≡ read.factor less
+unfolding read.below
 below_at room less h = ap read.below h
 
 below_function : (room : ℕ) → 0 < room → read.below room ≡ read.factor (room - 1)

@@ -193,11 +193,11 @@ module_text = word f.Domlock >>= λ l. one version free >>= λ v. kinds >>= λ k
 -- ---- the levels below
 
 -- a factor one level below
-abbrev pub below : ℕ → ℕ → Reader Counted
-below zero used = choose (comes number) (literal used) (variable used)
-below (suc room) used = factor room used
+unfoldable pub below : ℕ → ℕ → Reader Counted
+below zero = λ used. choose (comes number) (literal used) (variable used)
+below (suc room) = factor room
 
 -- a statement one level below
-abbrev pub statement_below : ℕ → Reader TreeStmt
+unfoldable pub statement_below : ℕ → Reader TreeStmt
 statement_below zero = returning zero
 statement_below (suc room) = statement room
