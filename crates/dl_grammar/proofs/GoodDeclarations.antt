@@ -18,7 +18,8 @@ use Rattle.dl_grammar.specs.declared.tree.What.TheVariants as what
 use Rattle.dl_grammar.specs.declared.tree.TreeExpr.{TreeExpr}
 use Rattle.dl_grammar.specs.Grammar.{Ending, Read, Passed, Rule, One, Nothing, Empty, Then, Both, Cut, Or, Many, Ahead, ahead, Reader, ◌>>=◌, pure, one, choose, repeat}
 use Rattle.dl_grammar.specs.Rules as rule
-use Rattle.dl_grammar.specs.Rules.{fixed, name, type_name, number, version, free, level, one_more, at_most, more_roots, Kinds, Declared}
+use Rattle.dl_grammar.specs.Rules.{fixed, name, type_name, number, version, free, level, one_more, at_most, more_roots, Kinds}
+use Rattle.dl_grammar.specs.declared.declarations.Declared.{Declared}
 use Rattle.dl_grammar.specs.Readers as read
 use Rattle.dl_grammar.specs.Readers.{comes, starts_statement, starts_kind}
 use Rattle.dl_grammar.proofs.Good.{tail, Follows, Good, any, good_pure, good_one}
@@ -49,7 +50,7 @@ good_number : (limit : ℕ → Option Bound) → Good (one number limit) (One nu
 good_number limit = good_one number limit (sample lexis.One) 1 refl
 
 -- ---- fields
-good_field : (most : ℕ) (bound : Bound) (stand : ℕ) → Good (read.field most bound stand) (rule.field most bound stand) any
+pub good_field : (most : ℕ) (bound : Bound) (stand : ℕ) → Good (read.field most bound stand) (rule.field most bound stand) any
 unfolding read.field
 good_field most bound stand = good_then (good_limited (one_more most stand bound)) (λ w. good_then (good_word f.Colon refl) (λ l. good_map (λ t. let x : TreeField = record { name = w; ty = t } in x) (good_one type_name free (sample (lexis.Name [])) some_word refl)))
 
@@ -60,7 +61,7 @@ no_comma o = not (comes (fixed f.Comma) o)
 abbrev CommaField : ℕ → Bound → ℕ → List TreeField → Rule (List TreeField)
 CommaField most bound stand before = Then (rule.word f.Comma) (λ l. Then (rule.field most bound (stand + length before)) (λ x. Nothing (before ++ x ∷ [])))
 
-good_fields_more : (most : ℕ) (bound : Bound) (stand : ℕ) (before : List TreeField) → Good (read.fields_more most bound stand before) (Many (CommaField most bound stand) before) no_comma
+pub good_fields_more : (most : ℕ) (bound : Bound) (stand : ℕ) (before : List TreeField) → Good (read.fields_more most bound stand before) (Many (CommaField most bound stand) before) no_comma
 unfolding read.fields_more
 good_fields_more most bound stand before =
     good_many (comes (fixed f.Comma)) (λ (b : List TreeField). good_then (good_word f.Comma refl) (λ l. good_map (λ (x : TreeField). b ++ x ∷ []) (good_field most bound (stand + length b))))
@@ -99,17 +100,17 @@ unfolding read.node_kind
 good_node_kind before = good_then (good_word f.Node refl) (λ l. good_then (good_limited (one_more 16 (length before.0) (Limit which.Kinds))) (λ w.
     good_map (λ (all : List TreeField). let k : Kinds = (before.0 ++ record { name = w; is_root = false; count = 0; fields = all } ∷ [], before.1) in k) good_fields))
 
-good_kind : (before : Kinds) → Good (read.kind before) (rule.kind before) any
+pub good_kind : (before : Kinds) → Good (read.kind before) (rule.kind before) any
 unfolding read.kind
 good_kind before = good_choose (comes (fixed f.Root)) (good_root_kind before) (good_node_kind before)
     (starts_then _ _ (comes (fixed f.Root)) true (word_shows f.Root (comes (fixed f.Root)) true (λ line. refl)))
     (λ g ws rest is h. starts_then _ _ (comes (fixed f.Root)) false (word_shows f.Node (comes (fixed f.Root)) false (λ line. refl)) g ws rest is)
 
-kind_shows : (before : Kinds) → Starts (rule.kind before) starts_kind true
+pub kind_shows : (before : Kinds) → Starts (rule.kind before) starts_kind true
 kind_shows before = starts_or (rule.root_kind before) (rule.node_kind before) starts_kind true (starts_then _ _ starts_kind true (word_shows f.Root starts_kind true (λ line. refl))) (starts_then _ _ starts_kind true (word_shows f.Node starts_kind true (λ line. refl)))
 
 good_kinds : Good read.kinds (Many rule.kind ([], 0)) (λ o. not (starts_kind o))
-unfolding read.kinds
+unfolding read.kinds read.kinds_from
 good_kinds = good_many starts_kind good_kind kind_shows refl (λ o. not (starts_kind o)) (λ o h. not_is (starts_kind o) h) (λ o h. refl) (λ o h. refl) ([], 0)
 
 -- ---- operations
@@ -158,13 +159,13 @@ good_quotas : Good read.quotas rule.quotas any
 unfolding read.quotas
 good_quotas = good_then (good_word f.Allocs refl) (λ l. good_then (good_number (at_most 64 (Limit which.Allocs))) (λ a. good_then (good_word f.Fuel refl) (λ m. good_map (λ (n : ℕ). let q : ℕ × ℕ = (a, n) in q) (good_number (at_most 1000000 (Limit which.Fuel))))))
 
-good_op : (before : List TreeOp) → Good (read.op_behind before) (rule.op_behind before) any
+pub good_op : (before : List TreeOp) → Good (read.op_behind before) (rule.op_behind before) any
 unfolding read.op_behind
 good_op before = good_then (good_word f.Op refl) (λ l. good_then (good_limited (one_more 64 (length before) (Limit which.Ops))) (λ w. good_then (good_word f.LParen refl) (λ m.
     good_before (good_fields_behind 32 (Limit which.Locals) 0) (λ params. starts_then _ _ no_comma true (word_shows f.RParen no_comma true (λ line. refl)))
     (λ params. good_then (good_word f.RParen refl) (λ n. good_then good_quotas (λ q. good_map (λ (o : TreeOp). before ++ o ∷ []) (good_body w params q.0 q.1)))))))
 
-op_shows : (test : Ahead → Bool) (b : Bool) → ((line : ℕ) → seen test (lexis.Fixed f.Op) line ≡ b) → (before : List TreeOp) → Starts (rule.op_behind before) test b
+pub op_shows : (test : Ahead → Bool) (b : Bool) → ((line : ℕ) → seen test (lexis.Fixed f.Op) line ≡ b) → (before : List TreeOp) → Starts (rule.op_behind before) test b
 op_shows test b h before = starts_then _ _ test b (word_shows f.Op test b h)
 
 -- nothing comes next
@@ -181,7 +182,7 @@ end_kind None h = refl
 end_kind (Some t) h = absurd (cc)
 
 good_ops : Good read.ops (Many rule.op_behind []) at_end
-unfolding read.ops
+unfolding read.ops read.ops_from
 good_ops = good_many (comes (fixed f.Op)) good_op (op_shows (comes (fixed f.Op)) true (λ line. refl)) refl at_end end_op (λ o h. refl) (λ o h. refl) []
 
 ops_follow : (v : ℕ) (ks : Kinds) (e : Ending Declared) (ws rest : List Lexeme) → Then (Many rule.op_behind []) (λ os. Nothing (record { version = v; kinds = ks.0; ops = os })) e ws → Follows at_end e rest → not (starts_kind (ahead (ws ++ tail e rest))) ≡ true

@@ -18,7 +18,7 @@ use Rattle.dl_grammar.specs.declared.tree.What.TheVariants as what
 use Rattle.dl_grammar.specs.declared.tree.TreeExpr.{TreeExpr}
 use Rattle.dl_grammar.specs.Grammar.{Ending, Read, Passed, Rule, One, Nothing, Empty, Then, Both, Cut, Or, Many, Ahead, ahead, Reader, ◌>>=◌, pure, one, choose, repeat}
 use Rattle.dl_grammar.specs.Rules as rule
-use Rattle.dl_grammar.specs.Rules.{fixed, name, type_name, number, version, free, level, one_more, at_most, more_roots, Kinds, Declared}
+use Rattle.dl_grammar.specs.Rules.{fixed, name, type_name, number, version, free, level, one_more, at_most, more_roots, Kinds}
 use Rattle.dl_grammar.specs.Readers as read
 use Rattle.dl_grammar.specs.Readers.{comes, starts_statement, starts_kind}
 use Rattle.dl_grammar.proofs.Good.{tail, Follows, Good, any, good_pure, good_one}
@@ -91,7 +91,7 @@ else_apart (Some t) h = else_apart_in t.lexis t.line h
 
 module _ {reader : Reader TreeStmt} {S : Rule TreeStmt} (good : Good reader S no_else) (starts : StatementStarts S) where
   pub good_statements : Good (read.statements reader) (rule.statements S) closes
-  unfolding read.statements
+  unfolding read.statements read.statements_from
   good_statements =
       good_many starts_statement (λ (before : List TreeStmt). good_map (λ (s : TreeStmt). before ++ s ∷ []) good) (λ before. starts_then _ _ starts_statement true starts) refl closes
       (brace_shows starts_statement false (λ line. refl)) (brace_shows no_else true (λ line. refl)) else_apart []
@@ -101,8 +101,8 @@ module _ {reader : Reader TreeStmt} {S : Rule TreeStmt} (good : Good reader S no
   good_block room = good_then (good_fixed f.LBrace (level room) refl) (λ l. good_before good_statements (λ body. starts_then _ _ closes true (word_shows f.RBrace closes true (λ line. refl)))
       (λ body. good_map (λ (m : ℕ). body) (good_word f.RBrace refl)))
 
-  good_loop : (room : ℕ) → Good (read.loop room reader) (rule.loop room S) any
-  unfolding read.loop
+  good_loop : (room : ℕ) → Good (read.repetition room reader) (rule.loop room S) any
+  unfolding read.repetition
   good_loop room = good_then (good_word f.While refl) (λ l. good_then (good_word f.LParen refl) (λ m. good_before (good_condition room) (λ c. starts_then _ _ ends_sum true (word_shows f.RParen ends_sum true (λ line. refl)))
       (λ c. good_then (good_word f.RParen refl) (λ n. good_map (λ body. roll-TreeStmt (record { line = l; what = what.While c body })) (good_block room)))))
 

@@ -2,11 +2,16 @@
 use Rattle.std.proofs.Common.{◌≡◌, ℕ, zero, suc, ◌+◌, ◌-◌, ◌<◌, ◌≤◌, Bool, true, false, cond, List, [], ◌∷◌, ◌++◌, length, Option, Some, None, Result, Ok, Err, refl, sym, ap, ◌∙◌, subst, arith}
 use Rattle.dl_grammar.specs.declared.lexeme.Lexeme.{Lexeme}
 use Rattle.dl_grammar.specs.declared.fault.Fault.{Fault}
-use Rattle.dl_grammar.specs.Grammar.{Ahead, ahead, Outcome, Reader, and_then, repeat}
+use Rattle.dl_grammar.specs.declared.tree.TreeStmt.{TreeStmt}
+use Rattle.dl_grammar.specs.Grammar.{Ahead, ahead, Outcome, Reader, and_then, ◌>>=◌, pure, repeat, Then, Nothing}
 use Rattle.dl_grammar.specs.Rules as rule
 use Rattle.dl_grammar.specs.Rules.{adding, scaling, Counted}
 use Rattle.dl_grammar.specs.Readers as read
-use Rattle.dl_grammar.specs.Readers.{comes}
+use Rattle.dl_grammar.specs.Readers.{comes, starts_statement}
+use Rattle.dl_grammar.proofs.Good.{Good}
+use Rattle.dl_grammar.proofs.Rules.{Starts, starts_then}
+use Rattle.dl_grammar.proofs.GoodLexemes.{good_map}
+use Rattle.dl_grammar.proofs.GoodStatements.{good_statement, statement_shows, no_else}
 use Rattle.dl_grammar.proofs.Repeats.{turn_stops, turn_goes, shrinks}
 use Rattle.dl_grammar.proofs.GoodExpressions.{scaled, scaled_starts, added, added_starts, good_factor}
 
@@ -57,3 +62,36 @@ pub sum_shrinks : (room : ℕ) (x : Counted) (ts : List Lexeme) (y : Counted) (r
 sum_shrinks room x ts y rest h = shrinks (comes adding) (added (good_factor room)) (added_starts (good_factor room)) refl x ts y rest h
 
 pub ruleset sum_steps = (sum_stop, sum_go, sum_shrinks)
+
+-- ---- statements
+pub statement_is : (room : ℕ) (ts : List Lexeme) → read.statement room ts ≡ read.statement_over room (read.statement_below room) ts
+unfolding read.statement_below
+statement_is zero ts = refl
+statement_is (suc room) ts = refl
+
+statement_below_at : (room less : ℕ) → room ≡ suc less → read.statement_below room ≡ read.statement less
+unfolding read.statement_below
+statement_below_at room less h = ap read.statement_below h
+
+pub statements_below : (room : ℕ) (ts : List Lexeme) → 0 < room → read.statements (read.statement_below room) ts ≡ read.statements (read.statement (room - 1)) ts
+statements_below room ts h = ap (λ (p : Reader TreeStmt). read.statements p ts) (statement_below_at room (room - 1) (omega arith))
+
+adds_statement : (room : ℕ) (before : List TreeStmt) → Good (read.statement room >>= λ s. pure (before ++ s ∷ [])) (Then (rule.statement room) (λ s. Nothing (before ++ s ∷ []))) no_else
+adds_statement room before = good_map (λ (s : TreeStmt). before ++ s ∷ []) (good_statement room)
+
+adds_shows : (room : ℕ) (before : List TreeStmt) → Starts (Then (rule.statement room) (λ s. Nothing (before ++ s ∷ []))) starts_statement true
+adds_shows room before = starts_then _ _ starts_statement true (statement_shows room)
+
+pub statements_stop : (room : ℕ) (before : List TreeStmt) (ts : List Lexeme) → starts_statement (ahead ts) ≡ false → read.statements_from (read.statement room) before ts ≡ Ok (before, ts)
+unfolding read.statements_from
+statements_stop room before ts h = turn_stops starts_statement (adds_statement room) (adds_shows room) refl before ts h
+
+pub statements_go : (room : ℕ) (before : List TreeStmt) (ts : List Lexeme) → starts_statement (ahead ts) ≡ true
+    → read.statements_from (read.statement room) before ts ≡ and_then (and_then (read.statement room ts) (λ s. pure (before ++ s ∷ []))) (read.statements_from (read.statement room))
+unfolding read.statements_from
+statements_go room before ts h = turn_goes starts_statement (adds_statement room) (adds_shows room) refl before ts h
+
+pub statement_shrinks : (room : ℕ) (ts : List Lexeme) (s : TreeStmt) (rest : List Lexeme) → read.statement room ts ≡ Ok (s, rest) → length rest < length ts
+statement_shrinks room ts s rest h = shrinks starts_statement (adds_statement room) (adds_shows room) refl [] ts (s ∷ []) rest (ap (λ o. and_then o (λ (x : TreeStmt). pure (x ∷ []))) h)
+
+pub ruleset statements_steps = (statements_stop, statements_go)

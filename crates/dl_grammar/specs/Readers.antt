@@ -22,7 +22,8 @@ use Rattle.dl_grammar.specs.declared.tree.TreeExpr.{TreeExpr}
 use Rattle.dl_grammar.specs.declared.tree.TreeExpr.TheVariants as e
 use Rattle.dl_grammar.specs.Grammar.{Ahead, Reader, ◌>>=◌, pure, one, choose, repeat}
 use Rattle.dl_grammar.specs.Rules as rule
-use Rattle.dl_grammar.specs.Rules.{fixed, name, type_name, number, version, adding, scaling, relation, free, level, one_more, at_most, more_roots, Counted, Kinds, Declared}
+use Rattle.dl_grammar.specs.Rules.{fixed, name, type_name, number, version, adding, scaling, relation, free, level, one_more, at_most, more_roots, Counted, Kinds}
+use Rattle.dl_grammar.specs.declared.declarations.Declared.{Declared}
 
 -- a lexeme with a value comes next
 abbrev pub comes : {A : Type 0} → (Lexeme → Option A) → Ahead → Bool
@@ -111,14 +112,17 @@ returning room = word f.Return >>= λ l. expression room >>= λ x. word f.Semico
 abbrev pub starts_statement : Ahead → Bool
 starts_statement o = comes (fixed f.If) o || comes (fixed f.While) o || comes (fixed f.Return) o || comes name o
 
+unfoldable pub statements_from : Reader TreeStmt → List TreeStmt → Reader (List TreeStmt)
+statements_from statement = repeat starts_statement (λ before. statement >>= λ s. pure (before ++ s ∷ []))
+
 unfoldable pub statements : Reader TreeStmt → Reader (List TreeStmt)
-statements statement = repeat starts_statement (λ before. statement >>= λ s. pure (before ++ s ∷ [])) []
+statements statement = statements_from statement []
 
 unfoldable pub block : ℕ → Reader TreeStmt → Reader (List TreeStmt)
 block room inner = one (fixed f.LBrace) (level room) >>= λ l. statements inner >>= λ body. word f.RBrace >>= λ m. pure body
 
-unfoldable pub loop : ℕ → Reader TreeStmt → Reader TreeStmt
-loop room inner =
+unfoldable pub repetition : ℕ → Reader TreeStmt → Reader TreeStmt
+repetition room inner =
     word f.While >>= λ l. word f.LParen >>= λ m. condition room >>= λ c. word f.RParen >>= λ n. block room inner >>= λ body. pure (roll-TreeStmt (record { line = l; what = what.While c body }))
 
 unfoldable pub otherwise : ℕ → Reader TreeStmt → Reader (List TreeStmt)
@@ -129,7 +133,7 @@ branch room inner =
     word f.If >>= λ l. word f.LParen >>= λ m. condition room >>= λ c. word f.RParen >>= λ n. block room inner >>= λ yes. otherwise room inner >>= λ no_block. pure (roll-TreeStmt (record { line = l; what = what.If c yes no_block }))
 
 unfoldable pub statement_over : ℕ → Reader TreeStmt → Reader TreeStmt
-statement_over room inner = choose (comes (fixed f.If)) (branch room inner) (choose (comes (fixed f.While)) (loop room inner) (choose (comes (fixed f.Return)) (returning room) (setting room)))
+statement_over room inner = choose (comes (fixed f.If)) (branch room inner) (choose (comes (fixed f.While)) (repetition room inner) (choose (comes (fixed f.Return)) (returning room) (setting room)))
 
 abbrev pub statement : ℕ → Reader TreeStmt
 statement zero = statement_over zero (returning zero)
@@ -165,8 +169,11 @@ kind before = choose (comes (fixed f.Root)) (root_kind before) (node_kind before
 abbrev pub starts_kind : Ahead → Bool
 starts_kind o = comes (fixed f.Root) o || comes (fixed f.Node) o
 
+unfoldable pub kinds_from : Kinds → Reader Kinds
+kinds_from = repeat starts_kind kind
+
 unfoldable pub kinds : Reader Kinds
-kinds = repeat starts_kind kind ([], 0)
+kinds = kinds_from ([], 0)
 
 unfoldable pub vars : ℕ → Reader (List TreeField)
 vars params = choose (comes (fixed f.Var)) (word f.Var >>= λ l. fields_behind 32 (Limit which.Locals) params >>= λ all. word f.Semicolon >>= λ m. pure all) (pure [])
@@ -184,8 +191,11 @@ op_behind before =
     word f.Op >>= λ l. one name (one_more 64 (length before) (Limit which.Ops)) >>= λ w. word f.LParen >>= λ m. fields_behind 32 (Limit which.Locals) 0 >>= λ params. word f.RParen >>= λ n.
         quotas >>= λ q. body w params q.0 q.1 >>= λ o. pure (before ++ o ∷ [])
 
+unfoldable pub ops_from : List TreeOp → Reader (List TreeOp)
+ops_from = repeat (comes (fixed f.Op)) op_behind
+
 unfoldable pub ops : Reader (List TreeOp)
-ops = repeat (comes (fixed f.Op)) op_behind []
+ops = ops_from []
 
 unfoldable pub module_text : Reader Declared
 module_text = word f.Domlock >>= λ l. one version free >>= λ v. kinds >>= λ ks. ops >>= λ os. pure (record { version = v; kinds = ks.0; ops = os })

@@ -27,6 +27,7 @@ use Rattle.dl_grammar.specs.declared.tree.Side.TheVariants as side
 use Rattle.dl_grammar.specs.declared.tree.TreeCond.{TreeCond}
 use Rattle.dl_grammar.specs.declared.tree.TreeExpr.{TreeExpr}
 use Rattle.dl_grammar.specs.declared.tree.TreeExpr.TheVariants as e
+use Rattle.dl_grammar.specs.declared.declarations.Declared.{Declared}
 use Rattle.dl_grammar.specs.Grammar.{Rule, One, Nothing, Then, Or, Many}
 
 -- ---- lexemes
@@ -308,12 +309,6 @@ quotas = Then (word f.Allocs) (λ l. Then (One number (at_most 64 (Limit which.A
 abbrev pub op_behind : List TreeOp → Rule (List TreeOp)
 op_behind before = Then (word f.Op) (λ l. Then (One name (one_more 64 (length before) (Limit which.Ops))) (λ w. Then (word f.LParen) (λ m. Then (fields_behind 32 (Limit which.Locals) 0) (λ params. Then (word f.RParen) (λ n.
     Then quotas (λ q. Then (body w params q.0 q.1) (λ o. Nothing (before ++ o ∷ []))))))))
-
--- what a module declares
-pub record Declared : Type 0 where
-  pub version : ℕ
-  pub kinds : List TreeKind
-  pub ops : List TreeOp
 
 -- module = "domlock" "1" kind* op*
 abbrev pub module_text : Rule Declared

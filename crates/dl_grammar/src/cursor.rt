@@ -1,7 +1,7 @@
 ghost use Rattle.std.specs.Prelude.{◌≡◌, ◌+◌, ◌≤◌, ◌<◌, OnOk, IfOk};
 ghost use Rattle.dl_grammar.specs.Grammar.{Gives, ahead, one};
 ghost use Rattle.dl_grammar.specs.Rules as rule;
-ghost use Rattle.dl_grammar.specs.Readers.{comes};
+ghost use Rattle.dl_grammar.specs.Readers.{comes, starts_statement, starts_kind};
 
 use crate::fault::{Bound, Fault, Which};
 use crate::lexeme::{Fixed, Lexeme, Lexis};
@@ -37,6 +37,18 @@ impl Cursor<'_> {
         ensures { result ≡ comes rule.number (ahead self.now.rest.now) }
     {
         matches!(self.rest, [Lexeme { lexis: Lexis::One | Lexis::Number(_), .. }, ..])
+    }
+
+    pub(crate) fn at_statement(&self) -> bool
+        ensures { result ≡ starts_statement (ahead self.now.rest.now) }
+    {
+        self.at(Fixed::If) || self.at(Fixed::While) || self.at(Fixed::Return) || self.at_name()
+    }
+
+    pub(crate) fn at_kind(&self) -> bool
+        ensures { result ≡ starts_kind (ahead self.now.rest.now) }
+    {
+        self.at(Fixed::Root) || self.at(Fixed::Node)
     }
 
     pub(crate) fn word(&mut self, fixed: Fixed) -> Result<u32, Fault>

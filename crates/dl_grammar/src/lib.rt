@@ -2,10 +2,13 @@
 #![tactic(auto)]
 
 mod cursor;
+mod declarations;
 mod expressions;
 mod fault;
 mod lexeme;
 mod probe;
+mod sides;
+mod statements;
 mod tree;
 
 pub use fault::Which;
