@@ -58,14 +58,19 @@ good_field most bound stand = good_then (good_limited (one_more most stand bound
 abbrev pub no_comma : Ahead → Bool
 no_comma o = not (comes (fixed f.Comma) o)
 
-abbrev CommaField : ℕ → Bound → ℕ → List TreeField → Rule (List TreeField)
+abbrev pub CommaField : ℕ → Bound → ℕ → List TreeField → Rule (List TreeField)
 CommaField most bound stand before = Then (rule.word f.Comma) (λ l. Then (rule.field most bound (stand + length before)) (λ x. Nothing (before ++ x ∷ [])))
+
+pub good_comma_field : (most : ℕ) (bound : Bound) (stand : ℕ) (b : List TreeField) → Good (read.word f.Comma >>= λ l. read.field most bound (stand + length b) >>= λ x. pure (b ++ x ∷ [])) (CommaField most bound stand b) any
+good_comma_field most bound stand b = good_then (good_word f.Comma refl) (λ l. good_map (λ (x : TreeField). b ++ x ∷ []) (good_field most bound (stand + length b)))
+
+pub comma_field_shows : (most : ℕ) (bound : Bound) (stand : ℕ) (b : List TreeField) → Starts (CommaField most bound stand b) (comes (fixed f.Comma)) true
+comma_field_shows most bound stand b = starts_then _ _ (comes (fixed f.Comma)) true (word_shows f.Comma (comes (fixed f.Comma)) true (λ line. refl))
 
 pub good_fields_more : (most : ℕ) (bound : Bound) (stand : ℕ) (before : List TreeField) → Good (read.fields_more most bound stand before) (Many (CommaField most bound stand) before) no_comma
 unfolding read.fields_more
 good_fields_more most bound stand before =
-    good_many (comes (fixed f.Comma)) (λ (b : List TreeField). good_then (good_word f.Comma refl) (λ l. good_map (λ (x : TreeField). b ++ x ∷ []) (good_field most bound (stand + length b))))
-    (λ b. starts_then _ _ (comes (fixed f.Comma)) true (word_shows f.Comma (comes (fixed f.Comma)) true (λ line. refl))) refl no_comma (λ o h. not_is (comes (fixed f.Comma) o) h) (widens no_comma) (widens (comes (fixed f.Comma))) before
+    good_many (comes (fixed f.Comma)) (good_comma_field most bound stand) (comma_field_shows most bound stand) refl no_comma (λ o h. not_is (comes (fixed f.Comma) o) h) (widens no_comma) (widens (comes (fixed f.Comma))) before
 
 good_fields_behind : (most : ℕ) (bound : Bound) (stand : ℕ) → Good (read.fields_behind most bound stand) (rule.fields_behind most bound stand) no_comma
 unfolding read.fields_behind

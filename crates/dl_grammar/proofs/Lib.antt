@@ -9,3 +9,4 @@ pub mod GoodSides
 pub mod GoodStatements
 pub mod GoodDeclarations
 pub mod Steps
+pub mod MoreSteps
