@@ -2,7 +2,6 @@ pub mod Good
 pub mod Rules
 pub mod Repeats
 pub mod Exact
-pub mod Tried
 pub mod GoodLexemes
 pub mod GoodExpressions
 pub mod GoodSides

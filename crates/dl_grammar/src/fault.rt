@@ -2,6 +2,7 @@ ghost use Rattle.std.specs.Prelude.{◌≡◌};
 ghost use Rattle.dl_grammar.specs.declared.fault.Fault.TheVariants.{Memory};
 
 use std::alloc::AllocError;
+use thiserror::Error;
 
 /// A limit of module texts that is counted.
 #[derive(Clone, Copy, Debug, PartialEq, Eq)]
@@ -39,4 +40,25 @@ impl From<AllocError> for Fault {
     fn from(_fault: AllocError) -> Fault {
         Fault::Memory
     }
+}
+
+/// Why a text is no module, at the first place that is wrong. Faults of tokens come before all others.
+#[derive(Clone, Copy, Debug, PartialEq, Eq, Error)]
+pub enum SyntaxFault {
+    #[error("line {line}: a byte above 127")]
+    NotAscii { at: usize, line: u32 },
+    #[error("line {line}: a byte that begins nothing")]
+    BadByte { at: usize, line: u32 },
+    #[error("line {line}: a number above 9223372036854775808")]
+    BigNumber { at: usize, line: u32 },
+    /// No module text goes on so.
+    #[error("line {line}: something else is expected")]
+    Expected { line: u32 },
+    /// A 33rd level is opened.
+    #[error("line {line}: nested too deep")]
+    TooDeep { line: u32 },
+    #[error("line {line}: the limit {which:?} is passed")]
+    Limit { line: u32, which: Which },
+    #[error("out of memory")]
+    Memory,
 }

@@ -6,11 +6,10 @@ mod declarations;
 mod expressions;
 mod fault;
 mod lexeme;
-mod probe;
+mod module;
 mod sides;
 mod statements;
 mod tree;
 
-pub use fault::Which;
-pub use probe::probing;
+pub use fault::{SyntaxFault, Which};
 pub use tree::{Rhs, Side, Tree, TreeBlock, TreeCond, TreeExpr, TreeField, TreeKind, TreeOp, TreeStmt, What, Word};
