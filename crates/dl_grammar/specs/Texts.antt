@@ -4,6 +4,7 @@ use Rattle.std.specs.Str.{bytes_eq}
 use Rattle.dl_text.specs.declared.token.Token.{Token}
 use Rattle.dl_text.specs.declared.token.TokenKind.{TokenKind}
 use Rattle.dl_text.specs.declared.token.TokenKind.TheVariants as kind
+use Rattle.dl_text.specs.declared.token.TextFault.{TextFault}
 use Rattle.dl_text.specs.declared.token.TextFault.TheVariants as text
 use Rattle.dl_text.specs.Text.{AreTokens, IsTextFault}
 use Rattle.dl_grammar.specs.declared.lexeme.Fixed.{Fixed}
@@ -124,6 +125,13 @@ fault_in fault.Expected line = syntax.Expected line
 fault_in (fault.Passed Levels) line = syntax.TooDeep line
 fault_in (fault.Passed (Limit which)) line = syntax.Limit line which
 fault_in fault.Memory line = syntax.Memory
+
+-- a fault of a token, as it is answered
+abbrev pub text_fault : TextFault → SyntaxFault
+text_fault (text.NotAscii at line) = syntax.NotAscii at line
+text_fault (text.BadByte at line) = syntax.BadByte at line
+text_fault (text.BigNumber at line) = syntax.BigNumber at line
+text_fault text.Memory = syntax.Memory
 
 -- the answer is what was made of all lexemes, unless memory runs out
 abbrev pub Answers : Result Declared (Fault × List Lexeme) → List Lexeme → Result Tree SyntaxFault → Type 0

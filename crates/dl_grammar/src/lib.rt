@@ -12,4 +12,5 @@ mod statements;
 mod tree;
 
 pub use fault::{SyntaxFault, Which};
+pub use module::{one_module, read_module};
 pub use tree::{Rhs, Side, Tree, TreeBlock, TreeCond, TreeExpr, TreeField, TreeKind, TreeOp, TreeStmt, What, Word};
