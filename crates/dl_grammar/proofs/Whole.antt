@@ -1,5 +1,5 @@
 -- What is made of all lexemes is what the clauses on texts say.
-use Rattle.std.proofs.Common.{◌≡◌, ◌≢◌, ℕ, ◌+◌, ◌≤◌, ◌<◌, List, [], ◌∷◌, ◌++◌, length, get_or, Result, Ok, Err, refl, sym, ap, ◌∙◌, subst, arith}
+use Rattle.std.proofs.Common.{◌≡◌, ◌≢◌, ℕ, ◌≤◌, ◌<◌, List, [], ◌∷◌, ◌++◌, length, get_or, Result, Ok, Err, refl, sym, ap, ◌∙◌, subst, arith}
 use Rattle.std.specs.Prelude.{MatchResult, IfOk, IfErr}
 use Rattle.dl_text.specs.declared.token.Token.{Token}
 use Rattle.dl_text.specs.declared.token.TextFault.{TextFault}
@@ -18,7 +18,7 @@ use Rattle.dl_grammar.specs.Grammar.{Read, StandsAt, finish}
 use Rattle.dl_grammar.specs.Rules.{module_text}
 use Rattle.dl_grammar.specs.Readers as read
 use Rattle.dl_grammar.specs.Texts.{lexemes_of, line_at, tree_of, Spells, FaultAt, IsSyntaxFault, fault_in, text_fault, Answers}
-use Rattle.dl_grammar.proofs.Exact.{only_read, one_value, judged, Judged, Faulty, only_fault}
+use Rattle.dl_grammar.proofs.Exact.{only_read, judged, Judged, only_fault}
 use Rattle.dl_grammar.proofs.GoodDeclarations.{good_module}
 
 -- ---- places of tokens
@@ -48,10 +48,11 @@ view_of bytes syntax.Memory h = absurd h
 pub fault_here : (bytes : List ℕ) (ts : List Token) → AreTokens bytes ts → (c : Fault) (line : ℕ) → FaultAt bytes c line
     → (rest : List Lexeme) × (finish (read.module_text (lexemes_of bytes ts)) ≡ Err (c, rest)) × (line ≡ line_at (lexemes_of bytes ts) rest)
 fault_here bytes ts are c line h =
-    let same : lexemes_of bytes h.0 ≡ lexemes_of bytes ts = ap (lexemes_of bytes) (one_list bytes h.0 ts h.3 are) in
-    (h.2,
-     ap (λ ls. finish (read.module_text ls)) (sym same ∙ h.4) ∙ only_fault good_module refl c h.1 h.2 h.6,
-     h.5 ∙ ap (λ ls. line_at ls h.2) same)
+    let same : lexemes_of bytes h.0 ≡ lexemes_of bytes ts = ap (lexemes_of bytes) (one_list bytes h.0 ts h.3 are) in (
+      h.2,
+      ap (λ ls. finish (read.module_text ls)) (sym same ∙ h.4) ∙ only_fault good_module refl c h.1 h.2 h.6,
+      h.5 ∙ ap (λ ls. line_at ls h.2) same,
+    )
 
 pub value_here : (bytes : List ℕ) (ts : List Token) → AreTokens bytes ts → (tree : Tree) → Spells bytes tree → (d : Declared) × (finish (read.module_text (lexemes_of bytes ts)) ≡ Ok d) × (tree ≡ tree_of d (lexemes_of bytes ts))
 value_here bytes ts are tree h =

@@ -1,15 +1,14 @@
 -- How module texts are read: for each rule of the grammar what its reader does, token by token.
-use Rattle.std.specs.Prelude.{◌≡◌, ℕ, zero, suc, ◌+◌, ◌-◌, Bool, true, false, not, ◌||◌, is_some, if◌then◌else◌, List, [], ◌∷◌, ◌++◌, length, Option, Some, None, pos}
+use Rattle.std.specs.Prelude.{ℕ, zero, suc, ◌+◌, Bool, true, false, ◌||◌, is_some, List, [], ◌∷◌, ◌++◌, length, Option, Some, None, pos}
 use Rattle.dl_ir.specs.declared.expressions.Op.{Op}
 use Rattle.dl_grammar.specs.declared.lexeme.Fixed.{Fixed}
 use Rattle.dl_grammar.specs.declared.lexeme.Fixed.TheVariants as f
 use Rattle.dl_grammar.specs.declared.lexeme.Lexeme.{Lexeme}
 use Rattle.dl_grammar.specs.declared.fault.Bound.{Bound}
-use Rattle.dl_grammar.specs.declared.fault.Bound.TheVariants.{Levels, Limit}
+use Rattle.dl_grammar.specs.declared.fault.Bound.TheVariants.{Limit}
 use Rattle.dl_grammar.specs.declared.fault.Which.TheVariants as which
 use Rattle.dl_grammar.specs.declared.tree.Word.{Word}
 use Rattle.dl_grammar.specs.declared.tree.TreeField.{TreeField}
-use Rattle.dl_grammar.specs.declared.tree.TreeKind.{TreeKind}
 use Rattle.dl_grammar.specs.declared.tree.TreeOp.{TreeOp}
 use Rattle.dl_grammar.specs.declared.tree.TreeStmt.{TreeStmt, roll-TreeStmt}
 use Rattle.dl_grammar.specs.declared.tree.What.TheVariants as what
@@ -21,7 +20,6 @@ use Rattle.dl_grammar.specs.declared.tree.TreeCond.{TreeCond}
 use Rattle.dl_grammar.specs.declared.tree.TreeExpr.{TreeExpr}
 use Rattle.dl_grammar.specs.declared.tree.TreeExpr.TheVariants as e
 use Rattle.dl_grammar.specs.Grammar.{Ahead, Reader, ◌>>=◌, pure, one, choose, repeat}
-use Rattle.dl_grammar.specs.Rules as rule
 use Rattle.dl_grammar.specs.Rules.{fixed, name, type_name, number, version, adding, scaling, relation, free, level, one_more, at_most, more_roots, Counted, Kinds}
 use Rattle.dl_grammar.specs.declared.declarations.Declared.{Declared}
 
@@ -156,7 +154,7 @@ fields = word f.LBrace >>= λ l. choose (comes name) (fields_behind 16 (Limit wh
 unfoldable pub root_kind : Kinds → Reader Kinds
 root_kind before =
     word f.Root >>= λ l. one name (one_more 16 (length before.0) (Limit which.Kinds)) >>= λ w. one number (more_roots before.1) >>= λ n. fields >>= λ all.
-        pure (before.0 ++ record { name = w; is_root = true; count = n; fields = all } ∷ [], before.1 + n)
+    pure (before.0 ++ record { name = w; is_root = true; count = n; fields = all } ∷ [], before.1 + n)
 
 unfoldable pub node_kind : Kinds → Reader Kinds
 node_kind before =
@@ -181,7 +179,7 @@ vars params = choose (comes (fixed f.Var)) (word f.Var >>= λ l. fields_behind 3
 unfoldable pub body : Word → List TreeField → ℕ → ℕ → Reader TreeOp
 body w params allocs fuel =
     word f.LBrace >>= λ l. vars (length params) >>= λ locals. statements (statement 32) >>= λ stmts. word f.RBrace >>= λ m.
-        pure (record { name = w; params = params; vars = locals; allocs = allocs; fuel = fuel; body = stmts })
+    pure (record { name = w; params = params; vars = locals; allocs = allocs; fuel = fuel; body = stmts })
 
 unfoldable pub quotas : Reader (ℕ × ℕ)
 quotas = word f.Allocs >>= λ l. one number (at_most 64 (Limit which.Allocs)) >>= λ a. word f.Fuel >>= λ m. one number (at_most 1000000 (Limit which.Fuel)) >>= λ n. pure (a, n)
@@ -189,7 +187,7 @@ quotas = word f.Allocs >>= λ l. one number (at_most 64 (Limit which.Allocs)) >>
 unfoldable pub op_behind : List TreeOp → Reader (List TreeOp)
 op_behind before =
     word f.Op >>= λ l. one name (one_more 64 (length before) (Limit which.Ops)) >>= λ w. word f.LParen >>= λ m. fields_behind 32 (Limit which.Locals) 0 >>= λ params. word f.RParen >>= λ n.
-        quotas >>= λ q. body w params q.0 q.1 >>= λ o. pure (before ++ o ∷ [])
+    quotas >>= λ q. body w params q.0 q.1 >>= λ o. pure (before ++ o ∷ [])
 
 unfoldable pub ops_from : List TreeOp → Reader (List TreeOp)
 ops_from = repeat (comes (fixed f.Op)) op_behind

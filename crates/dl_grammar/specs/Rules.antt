@@ -1,5 +1,5 @@
 -- The grammar of module texts, with its limits.
-use Rattle.std.specs.Prelude.{◌≡◌, ℕ, zero, suc, ◌+◌, ◌-◌, Bool, true, false, ◌==◌, nat_le, nat_lt, if◌then◌else◌, List, [], ◌∷◌, ◌++◌, length, Option, Some, None, pos, codes}
+use Rattle.std.specs.Prelude.{ℕ, zero, suc, ◌+◌, Bool, true, false, ◌==◌, nat_le, nat_lt, if◌then◌else◌, List, [], ◌∷◌, ◌++◌, length, Option, Some, None, pos, codes}
 use denote.Enum.Bare.{sameb}
 use Rattle.dl_ir.specs.declared.expressions.Op.{Op}
 use Rattle.dl_ir.specs.declared.expressions.Op.TheVariants as op

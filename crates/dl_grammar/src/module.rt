@@ -64,8 +64,17 @@ fn read_lexemes(alloc: Global, all: &[Lexeme]) -> Result<Tree, SyntaxFault>
     if let [lexeme, ..] = cursor.rest {
         return Err(SyntaxFault::Expected { line: lexeme.line });
     }
-    let Declared { version, kinds, ops } = declared;
-    Ok(Tree { version, kinds, ops, last: last_line(all) })
+    let Declared {
+        version,
+        kinds,
+        ops,
+    } = declared;
+    Ok(Tree {
+        version,
+        kinds,
+        ops,
+        last: last_line(all),
+    })
 }
 
 /// The reserved word that a word is.
@@ -192,7 +201,10 @@ fn lexemes(alloc: Global, bytes: &[u8], tokens: &[Token]) -> Result<Items<Lexeme
     let mut rest = tokens;
     'tokens: while let [token, more @ ..] = rest {
         let lexis = lexis_of(alloc, token.kind, text_of(bytes, token))?;
-        found.push(Lexeme { lexis, line: token.line })?;
+        found.push(Lexeme {
+            lexis,
+            line: token.line,
+        })?;
         rest = more;
     }
     Ok(found)
@@ -236,5 +248,4 @@ pub fn one_module()
     ensures tree { (bytes : List ℕ) (a b : TreeOf) → Spells bytes a → Spells bytes b → a ≡ b }
     ensures fault { (bytes : List ℕ) (e f : FaultOf) → IsSyntaxFault bytes e → IsSyntaxFault bytes f → e ≡ f }
     ensures either { (bytes : List ℕ) (tree : TreeOf) (f : FaultOf) → Spells bytes tree → ¬ IsSyntaxFault bytes f }
-{
-}
+{}

@@ -1,8 +1,7 @@
-use Rattle.std.proofs.Common.{◌≡◌, ap, subst, sym, ◌∙◌}
+use Rattle.std.proofs.Common.{ap, subst, ◌∙◌}
 use Rattle.dl_grammar.specs.Grammar.{finish}
 use Rattle.dl_grammar.specs.Readers as read
 use Rattle.dl_grammar.specs.Texts.{lexemes_of, text_fault, Answers}
-use Rattle.dl_grammar.specs.declared.fault.SyntaxFault.TheVariants as syntax
 use Rattle.dl_grammar.proofs.Whole.{whole_found, whole_only, whole_fault, whole_only_fault, text_only_fault}
 use Rattle.dl_grammar.proofs.module.read_module.Goals as goal
 use Rattle.dl_grammar.proofs.module.read_module.Goals.{After-read_lexemes}
