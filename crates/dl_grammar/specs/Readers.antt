@@ -28,6 +28,7 @@ abbrev pub comes : {A : Type 0} → (Lexeme → Option A) → Ahead → Bool
 comes value None = false
 comes value (Some t) = is_some (value t)
 
+-- a reserved word or a symbol
 abbrev pub word : Fixed → Reader ℕ
 word g = one (fixed g) free
 
@@ -42,12 +43,14 @@ variable used = one name free >>= λ w. pure (e.Name w, used)
 unfoldable pub operation : (Lexeme → Option Op) → (ℕ → Reader Counted) → Counted → Reader Counted
 operation operator right left = one operator (one_more 256 left.1 (Limit which.Operators)) >>= λ o. right (left.1 + 1) >>= λ x. pure (e.Bin o left.0 x.0, x.1)
 
+-- what follows the first factor of a term
 unfoldable pub term_behind : (ℕ → Reader Counted) → Counted → Reader Counted
 term_behind factor = repeat (comes scaling) (operation scaling factor)
 
 unfoldable pub term : (ℕ → Reader Counted) → ℕ → Reader Counted
 term factor used = factor used >>= term_behind factor
 
+-- what follows the first term of a sum
 unfoldable pub sum_behind : (ℕ → Reader Counted) → Counted → Reader Counted
 sum_behind factor = repeat (comes adding) (operation adding (term factor))
 
@@ -83,9 +86,11 @@ condition room = side_of room >>= λ a. one relation free >>= λ r. side_of room
 unfoldable pub sum_from : ℕ → Word → Reader Rhs
 sum_from room w = term_behind (factor room) (e.Name w, 0) >>= λ t. sum_behind (factor room) t >>= λ x. pure (rhs.Sum x.0)
 
+-- a followed field, whose local has been read
 unfoldable pub followed_from : Word → Reader Rhs
 followed_from p = word f.Dot >>= λ l. one name free >>= λ g. pure (rhs.Field p g)
 
+-- a right side that begins with a name
 unfoldable pub named_side : ℕ → Reader Rhs
 named_side room = one name free >>= λ w. choose (comes (fixed f.Dot)) (followed_from w) (sum_from room w)
 
@@ -94,9 +99,11 @@ right_side room =
     choose (comes (fixed f.Null)) (word f.Null >>= λ l. pure rhs.Null) (choose (comes (fixed f.New)) (word f.New >>= λ l. one name free >>= λ k. pure (rhs.New k))
     (choose (comes name) (named_side room) (expression room >>= λ x. pure (rhs.Sum x))))
 
+-- a local is set, behind its name
 unfoldable pub assignment : ℕ → Word → Reader TreeStmt
 assignment room x = word f.Assign >>= λ l. right_side room >>= λ r. word f.Semicolon >>= λ m. pure (roll-TreeStmt (record { line = x.line; what = what.Assign x r }))
 
+-- a field is set, behind the name of the local
 unfoldable pub store : ℕ → Word → Reader TreeStmt
 store room x = word f.Dot >>= λ l. one name free >>= λ g. word f.Assign >>= λ m. side_of room >>= λ r. word f.Semicolon >>= λ n. pure (roll-TreeStmt (record { line = x.line; what = what.Store x g r }))
 
@@ -110,6 +117,7 @@ returning room = word f.Return >>= λ l. expression room >>= λ x. word f.Semico
 abbrev pub starts_statement : Ahead → Bool
 starts_statement o = comes (fixed f.If) o || comes (fixed f.While) o || comes (fixed f.Return) o || comes name o
 
+-- statements behind others
 unfoldable pub statements_from : Reader TreeStmt → List TreeStmt → Reader (List TreeStmt)
 statements_from statement = repeat starts_statement (λ before. statement >>= λ s. pure (before ++ s ∷ []))
 
@@ -142,6 +150,7 @@ statement (suc room) = statement_over (suc room) (statement room)
 unfoldable pub field : ℕ → Bound → ℕ → Reader TreeField
 field most bound stand = one name (one_more most stand bound) >>= λ w. word f.Colon >>= λ l. one type_name free >>= λ t. pure (record { name = w; ty = t })
 
+-- fields behind others, each with a comma before it
 unfoldable pub fields_more : ℕ → Bound → ℕ → List TreeField → Reader (List TreeField)
 fields_more most bound stand = repeat (comes (fixed f.Comma)) (λ before. word f.Comma >>= λ l. field most bound (stand + length before) >>= λ x. pure (before ++ x ∷ []))
 
@@ -167,6 +176,7 @@ kind before = choose (comes (fixed f.Root)) (root_kind before) (node_kind before
 abbrev pub starts_kind : Ahead → Bool
 starts_kind o = comes (fixed f.Root) o || comes (fixed f.Node) o
 
+-- kinds behind others
 unfoldable pub kinds_from : Kinds → Reader Kinds
 kinds_from = repeat starts_kind kind
 
@@ -189,6 +199,7 @@ op_behind before =
     word f.Op >>= λ l. one name (one_more 64 (length before) (Limit which.Ops)) >>= λ w. word f.LParen >>= λ m. fields_behind 32 (Limit which.Locals) 0 >>= λ params. word f.RParen >>= λ n.
     quotas >>= λ q. body w params q.0 q.1 >>= λ o. pure (before ++ o ∷ [])
 
+-- operations behind others
 unfoldable pub ops_from : List TreeOp → Reader (List TreeOp)
 ops_from = repeat (comes (fixed f.Op)) op_behind
 

@@ -67,6 +67,7 @@ symbol bytes =
     else (if is_text bytes (codes "==") then f.Equal
     else f.NotEqual))))))))))))))))
 
+-- a word that is reserved, or a name
 abbrev pub word_lexis : List ℕ → Option Fixed → Lexis
 word_lexis bytes (Some g) = lexis.Fixed g
 word_lexis bytes None = lexis.Name bytes
