@@ -1,4 +1,4 @@
-use Rattle.std.specs.Prelude.{◌+◌, ◌==◌, ◌&&◌, ◌++◌, ℕ, ℤ, pos, negsuc, zero, suc, Bool, true, false, Option, Some, None, List, [], ◌∷◌, length, slice_get, filter, sum_by, codes, decimal}
+use Rattle.std.specs.Prelude.{◌+◌, ◌≤◌, All, ◌==◌, ◌&&◌, ◌++◌, ℕ, ℤ, pos, negsuc, zero, suc, Bool, true, false, Option, Some, None, List, [], ◌∷◌, length, slice_get, filter, sum_by, codes, decimal}
 use Rattle.std.specs.Fmt.{signed_decimal}
 use Rattle.std.specs.Option.{option_map_or}
 use Rattle.std.specs.List.{find, flat_map, zip}
@@ -158,12 +158,12 @@ abbrev pub object_line : Module → Name × Obj → List ℕ
 object_line source entry = name_text entry.0 ++ codes " " ++ object_text entry.1 (slice_get source.kinds entry.1.kind) ++ codes "\n"
 
 -- the number of objects, and of those that are no roots
-abbrev pub heap_head : Objects → List ℕ
-heap_head heap = codes "heap " ++ decimal (finite.len heap) ++ codes " kept " ++ decimal (hidden_count heap)
+abbrev pub heap_head : ℕ → ℕ → List ℕ
+heap_head objects hidden = codes "heap " ++ decimal objects ++ codes " kept " ++ decimal hidden
 
 -- the numbers of objects, and a line for each in rising names
 abbrev pub heap_part : Module → Objects → List ℕ
-heap_part source heap = heap_head heap ++ codes "\n" ++ flat_map (object_line source) (finite.entries heap)
+heap_part source heap = heap_head (length (finite.entries heap)) (hidden_count heap) ++ codes "\n" ++ flat_map (object_line source) (finite.entries heap)
 
 -- what the report says of the operations: its first line, the answers and the history
 abbrev pub operations_part : Module → List (List Call) → List Entry → List Refusal → List ℕ

@@ -1,31 +1,41 @@
-ghost use Rattle.std.specs.Prelude.{◌≡◌, ◌×◌, false, length, Option, filter, nat_lt};
+ghost use Rattle.std.specs.Prelude.{◌≡◌, ◌++◌, codes, slice_get, Some, false, length, Option, filter, nat_lt};
 ghost use Rattle.std.specs.List.{flat_map, zip};
 ghost use Rattle.std.specs.FinMap as finite;
 ghost use Rattle.dl_ir.specs.Heap.{hidden_count};
 ghost use Rattle.dl_text.specs.Writing.{Puts};
 ghost use Rattle.dl_history.specs.Report.{field_text, seal_text, object_text, object_line, heap_head, heap_part};
 
-use crate::pieces::{put_name, put_value};
+use crate::pieces::{put_name, put_text, put_value};
 use dl_ir::{FieldDecl, Heap, KindDecl, Module, Name, Obj, Value};
 use dl_text::{Failed, Out, Sink};
 
-fn put_field<K: Sink>(out: &mut Out, sink: &mut K, decl: &FieldDecl, value: Value) -> Result<(), Failed>
+fn put_field<K: Sink>(
+    out: &mut Out,
+    sink: &mut K,
+    decl: &FieldDecl,
+    value: Value,
+) -> Result<(), Failed>
     requires { out.old.failed ≡ false }
     ensures { Puts (K.taken sink.old) out.old (field_text (decl.now, value)) result (K.taken sink.new) out.new }
 {
     out.put(sink, b" ")?;
-    out.put(sink, decl.name.as_slice())?;
+    put_text(out, sink, &decl.name)?;
     out.put(sink, b"=")?;
     put_value(out, sink, value)
 }
 
 // Puts each field with its value.
-fn put_fields<K: Sink>(out: &mut Out, sink: &mut K, decls: &[FieldDecl], values: &[Value]) -> Result<(), Failed>
+fn put_fields<K: Sink>(
+    out: &mut Out,
+    sink: &mut K,
+    decls: &[FieldDecl],
+    values: &[Value],
+) -> Result<(), Failed>
     requires { out.old.failed ≡ false }
     ensures { Puts (K.taken sink.old) out.old (flat_map field_text (zip decls.now values.now)) result (K.taken sink.new) out.new }
 {
-    'fields: for (decl, value) in decls.iter().zip(values) {
-        put_field(out, sink, decl, *value)?;
+    'fields: for i in 0..decls.len().min(values.len()) {
+        put_field(out, sink, &decls[i], values[i])?;
     }
     Ok(())
 }
@@ -41,16 +51,38 @@ fn put_seal<K: Sink>(out: &mut Out, sink: &mut K, sealed: bool) -> Result<(), Fa
     }
 }
 
-fn put_object_of<K: Sink>(out: &mut Out, sink: &mut K, object: &Obj, kind: &KindDecl) -> Result<(), Failed>
+fn put_object_fields<K: Sink>(
+    out: &mut Out,
+    sink: &mut K,
+    object: &Obj,
+    kind: &KindDecl,
+) -> Result<(), Failed>
     requires { out.old.failed ≡ false }
-    ensures { Puts (K.taken sink.old) out.old (object_text object.now (Some kind.now)) result (K.taken sink.new) out.new }
+    ensures { Puts (K.taken sink.old) out.old (flat_map field_text (zip kind.now.fields object.now.fields)) result (K.taken sink.new) out.new }
 {
-    out.put(sink, kind.name.as_slice())?;
-    put_seal(out, sink, object.sealed)?;
     put_fields(out, sink, kind.fields.as_slice(), object.fields.as_slice())
 }
 
-fn put_object<K: Sink>(out: &mut Out, sink: &mut K, source: &Module, object: &Obj) -> Result<(), Failed>
+fn put_object_of<K: Sink>(
+    out: &mut Out,
+    sink: &mut K,
+    object: &Obj,
+    kind: &KindDecl,
+) -> Result<(), Failed>
+    requires { out.old.failed ≡ false }
+    ensures { Puts (K.taken sink.old) out.old (object_text object.now (Some kind.now)) result (K.taken sink.new) out.new }
+{
+    put_text(out, sink, &kind.name)?;
+    put_seal(out, sink, object.sealed)?;
+    put_object_fields(out, sink, object, kind)
+}
+
+fn put_object<K: Sink>(
+    out: &mut Out,
+    sink: &mut K,
+    source: &Module,
+    object: &Obj,
+) -> Result<(), Failed>
     requires { out.old.failed ≡ false }
     ensures { Puts (K.taken sink.old) out.old (object_text object.now (slice_get source.now.kinds object.now.kind)) result (K.taken sink.new) out.new }
 {
@@ -60,22 +92,33 @@ fn put_object<K: Sink>(out: &mut Out, sink: &mut K, source: &Module, object: &Ob
     }
 }
 
-fn put_object_line<K: Sink>(out: &mut Out, sink: &mut K, source: &Module, entry: &(Name, Obj)) -> Result<(), Failed>
+fn put_object_line<K: Sink>(
+    out: &mut Out,
+    sink: &mut K,
+    source: &Module,
+    name: Name,
+    object: &Obj,
+) -> Result<(), Failed>
     requires { out.old.failed ≡ false }
-    ensures { Puts (K.taken sink.old) out.old (object_line source.now entry.now) result (K.taken sink.new) out.new }
+    ensures { Puts (K.taken sink.old) out.old (object_line source.now (name, object.now)) result (K.taken sink.new) out.new }
 {
-    put_name(out, sink, entry.0)?;
+    put_name(out, sink, name)?;
     out.put(sink, b" ")?;
-    put_object(out, sink, source, &entry.1)?;
+    put_object(out, sink, source, object)?;
     out.put(sink, b"\n")
 }
 
-fn put_object_lines<K: Sink>(out: &mut Out, sink: &mut K, source: &Module, entries: &[(Name, Obj)]) -> Result<(), Failed>
+fn put_object_lines<K: Sink>(
+    out: &mut Out,
+    sink: &mut K,
+    source: &Module,
+    entries: &[(Name, Obj)],
+) -> Result<(), Failed>
     requires { out.old.failed ≡ false }
     ensures { Puts (K.taken sink.old) out.old (flat_map (object_line source.now) entries.now) result (K.taken sink.new) out.new }
 {
     'objects: for entry in entries {
-        put_object_line(out, sink, source, entry)?;
+        put_object_line(out, sink, source, entry.0, &entry.1)?;
     }
     Ok(())
 }
@@ -87,23 +130,52 @@ fn count_hidden(entries: &[(Name, Obj)]) -> usize
     entries.iter().filter(|entry| entry.0.ticket > 0).count()
 }
 
-fn put_heap_head<K: Sink>(out: &mut Out, sink: &mut K, heap: &Heap) -> Result<(), Failed>
+fn put_heap_head<K: Sink>(
+    out: &mut Out,
+    sink: &mut K,
+    objects: usize,
+    hidden: usize,
+) -> Result<(), Failed>
     requires { out.old.failed ≡ false }
-    ensures { Puts (K.taken sink.old) out.old (heap_head heap.now.objects) result (K.taken sink.new) out.new }
+    ensures { Puts (K.taken sink.old) out.old (heap_head objects hidden) result (K.taken sink.new) out.new }
 {
-    let entries = heap.entries();
     out.put(sink, b"heap ")?;
-    out.put_number(sink, entries.len())?;
+    out.put_number(sink, objects)?;
     out.put(sink, b" kept ")?;
-    out.put_number(sink, count_hidden(entries))
+    out.put_number(sink, hidden)
+}
+
+fn put_counts<K: Sink>(out: &mut Out, sink: &mut K, entries: &[(Name, Obj)]) -> Result<(), Failed>
+    requires { out.old.failed ≡ false }
+    ensures { Puts (K.taken sink.old) out.old (heap_head (length entries.now) (length (filter (λ (e : Name × Obj). nat_lt 0 e.0.ticket) entries.now))) result (K.taken sink.new) out.new }
+{
+    put_heap_head(out, sink, entries.len(), count_hidden(entries))
+}
+
+// Puts the numbers of objects, and a line for each.
+fn put_entries<K: Sink>(
+    out: &mut Out,
+    sink: &mut K,
+    source: &Module,
+    entries: &[(Name, Obj)],
+) -> Result<(), Failed>
+    requires { out.old.failed ≡ false }
+    ensures { Puts (K.taken sink.old) out.old (heap_head (length entries.now) (length (filter (λ (e : Name × Obj). nat_lt 0 e.0.ticket) entries.now)) ++ codes "\n" ++ flat_map (object_line source.now) entries.now) result (K.taken sink.new) out.new }
+{
+    put_counts(out, sink, entries)?;
+    out.put(sink, b"\n")?;
+    put_object_lines(out, sink, source, entries)
 }
 
 /// Puts the numbers of objects, and a line for each.
-pub fn put_heap<K: Sink>(out: &mut Out, sink: &mut K, source: &Module, heap: &Heap) -> Result<(), Failed>
+pub fn put_heap<K: Sink>(
+    out: &mut Out,
+    sink: &mut K,
+    source: &Module,
+    heap: &Heap,
+) -> Result<(), Failed>
     requires { out.old.failed ≡ false }
     ensures { Puts (K.taken sink.old) out.old (heap_part source.now heap.now.objects) result (K.taken sink.new) out.new }
 {
-    put_heap_head(out, sink, heap)?;
-    out.put(sink, b"\n")?;
-    put_object_lines(out, sink, source, heap.entries())
+    put_entries(out, sink, source, heap.entries())
 }

@@ -29,7 +29,12 @@ impl History {
     }
 
     /// The history of these entries, with the moves of each in their order.
-    pub fn new(alloc: Global, source: &Module, files: &[Calls], entries: Items<Entry>) -> Result<History, AllocError>
+    pub fn new(
+        alloc: Global,
+        source: &Module,
+        files: &[Calls],
+        entries: Items<Entry>,
+    ) -> Result<History, AllocError>
         ensures entries { IfOk result (λ history. history.entries ≡ entries) }
         ensures moves { IfOk result (λ history. history.moves ≡ moves_of source.now files.now entries) }
     {

@@ -3,11 +3,16 @@ ghost use Rattle.std.specs.Fmt.{signed_decimal};
 ghost use Rattle.dl_text.specs.Writing.{Puts};
 ghost use Rattle.dl_history.specs.Report.{dotted, name_text, end_text, breach_text, answer_text, shortage_text, refusal_text, head_line, argument_text, value_text};
 
-use dl_ir::{Answer, End, Name, Refusal, Value};
+use dl_ir::{Answer, End, Name, Refusal, Text, Value};
 use dl_text::{Failed, Out, Sink};
 
 /// Puts two numbers with a dot between them.
-pub fn put_dotted<K: Sink>(out: &mut Out, sink: &mut K, first: u64, second: u32) -> Result<(), Failed>
+pub fn put_dotted<K: Sink>(
+    out: &mut Out,
+    sink: &mut K,
+    first: u64,
+    second: u32,
+) -> Result<(), Failed>
     requires { out.old.failed ≡ false }
     ensures { Puts (K.taken sink.old) out.old (dotted first second) result (K.taken sink.new) out.new }
 {
@@ -25,7 +30,12 @@ pub fn put_name<K: Sink>(out: &mut Out, sink: &mut K, name: Name) -> Result<(), 
 }
 
 /// Puts a word with a space behind it, a number and the end of the line.
-pub fn put_head<K: Sink>(out: &mut Out, sink: &mut K, word: &[u8], count: usize) -> Result<(), Failed>
+pub fn put_head<K: Sink>(
+    out: &mut Out,
+    sink: &mut K,
+    word: &[u8],
+    count: usize,
+) -> Result<(), Failed>
     requires { out.old.failed ≡ false }
     ensures { Puts (K.taken sink.old) out.old (head_line word.now count) result (K.taken sink.new) out.new }
 {
@@ -34,13 +44,29 @@ pub fn put_head<K: Sink>(out: &mut Out, sink: &mut K, word: &[u8], count: usize)
     out.put(sink, b"\n")
 }
 
-/// Puts a number behind a space.
-pub fn put_argument<K: Sink>(out: &mut Out, sink: &mut K, argument: i64) -> Result<(), Failed>
+/// Puts a number that may be negative.
+pub fn put_integer<K: Sink>(out: &mut Out, sink: &mut K, number: &i64) -> Result<(), Failed>
     requires { out.old.failed ≡ false }
-    ensures { Puts (K.taken sink.old) out.old (argument_text argument) result (K.taken sink.new) out.new }
+    ensures { Puts (K.taken sink.old) out.old (signed_decimal number.now) result (K.taken sink.new) out.new }
+{
+    out.put_number(sink, *number)
+}
+
+/// Puts a name of a declaration.
+pub fn put_text<K: Sink>(out: &mut Out, sink: &mut K, text: &Text) -> Result<(), Failed>
+    requires { out.old.failed ≡ false }
+    ensures { Puts (K.taken sink.old) out.old text.now result (K.taken sink.new) out.new }
+{
+    out.put(sink, text.as_slice())
+}
+
+/// Puts a number behind a space.
+pub fn put_argument<K: Sink>(out: &mut Out, sink: &mut K, argument: &i64) -> Result<(), Failed>
+    requires { out.old.failed ≡ false }
+    ensures { Puts (K.taken sink.old) out.old (argument_text argument.now) result (K.taken sink.new) out.new }
 {
     out.put(sink, b" ")?;
-    out.put_number(sink, argument)
+    put_integer(out, sink, argument)
 }
 
 /// Puts a value: a number, a name, or `-` for null.
@@ -69,7 +95,7 @@ fn put_end<K: Sink>(out: &mut Out, sink: &mut K, end: End) -> Result<(), Failed>
     ensures { Puts (K.taken sink.old) out.old (end_text end) result (K.taken sink.new) out.new }
 {
     match end {
-        End::Ok(number) => put_ok(out, sink, number),
+        End::Ok(number) => put_ok(out, sink, &number),
         End::Null => out.put(sink, b"null"),
         End::Overflow => out.put(sink, b"overflow"),
         End::DivZero => out.put(sink, b"divzero"),
@@ -79,12 +105,12 @@ fn put_end<K: Sink>(out: &mut Out, sink: &mut K, end: End) -> Result<(), Failed>
     }
 }
 
-fn put_ok<K: Sink>(out: &mut Out, sink: &mut K, number: i64) -> Result<(), Failed>
+fn put_ok<K: Sink>(out: &mut Out, sink: &mut K, number: &i64) -> Result<(), Failed>
     requires { out.old.failed ≡ false }
-    ensures { Puts (K.taken sink.old) out.old (codes "ok " ++ signed_decimal number) result (K.taken sink.new) out.new }
+    ensures { Puts (K.taken sink.old) out.old (codes "ok " ++ signed_decimal number.now) result (K.taken sink.new) out.new }
 {
     out.put(sink, b"ok ")?;
-    out.put_number(sink, number)
+    put_integer(out, sink, number)
 }
 
 // Puts a word and a name.

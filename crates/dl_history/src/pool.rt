@@ -1,4 +1,4 @@
-ghost use Rattle.std.specs.Prelude.{◌≡◌, false, length};
+ghost use Rattle.std.specs.Prelude.{◌≡◌, ◌++◌, decimal, false, length};
 ghost use Rattle.std.specs.List.{flat_map};
 ghost use Rattle.dl_text.specs.Writing.{Puts};
 ghost use Rattle.dl_history.specs.Report.{change_text, step_text, move_line, pool_part};
@@ -15,11 +15,11 @@ fn put_signed<K: Sink>(out: &mut Out, sink: &mut K, sign: &[u8], number: u64) ->
     out.put_number(sink, number)
 }
 
-fn put_change<K: Sink>(out: &mut Out, sink: &mut K, change: i64) -> Result<(), Failed>
+fn put_change<K: Sink>(out: &mut Out, sink: &mut K, change: &i64) -> Result<(), Failed>
     requires { out.old.failed ≡ false }
-    ensures { Puts (K.taken sink.old) out.old (change_text change) result (K.taken sink.new) out.new }
+    ensures { Puts (K.taken sink.old) out.old (change_text change.now) result (K.taken sink.new) out.new }
 {
-    if change < 0 {
+    if *change < 0 {
         put_signed(out, sink, b"-", change.unsigned_abs())
     } else {
         put_signed(out, sink, b"+", change.unsigned_abs())
@@ -32,7 +32,7 @@ fn put_step<K: Sink>(out: &mut Out, sink: &mut K, change: Move) -> Result<(), Fa
 {
     out.put_number(sink, change.version)?;
     out.put(sink, b" ")?;
-    put_change(out, sink, change.change)
+    put_change(out, sink, &change.change)
 }
 
 fn put_move<K: Sink>(out: &mut Out, sink: &mut K, change: Move) -> Result<(), Failed>

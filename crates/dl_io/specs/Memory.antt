@@ -15,9 +15,14 @@ is_reliable (call ∷ calls) = false
 abbrev pub sound_paths_in : List ℕ → List MemFile → List (List ℕ)
 sound_paths_in fails files = if is_reliable fails then map (λ file. string_bytes file.path) files else []
 
--- the numbers of the calls that fail
-abbrev pub fails_of : MemFiles → List ℕ
-fails_of files = files.fails.items
+-- how files in memory give: how many bytes at most at a time, which calls fail, and how many were made
+pub record Plan : Type 0 where
+  pub piece : ℕ
+  pub fails : List ℕ
+  pub calls : ℕ
+
+abbrev pub plan_of : MemFiles → Plan
+plan_of files = record { piece = files.piece; fails = files.fails.items; calls = files.calls }
 
 -- what files in memory tell
 abbrev pub source_of : MemFiles → Source
@@ -55,3 +60,14 @@ pub record Adds (fails : List ℕ) (old new : Source) (path bytes : List ℕ) : 
 -- what a sink in memory tells
 abbrev pub taken_of : MemSink → Taken
 taken_of sink = record { written = Some sink.bytes.items; faults = sink.faults }
+
+-- how a sink in memory takes: how many bytes at most at a time, which calls fail, how many were made,
+-- and how many bytes it has room for
+pub record Script : Type 0 where
+  pub piece : ℕ
+  pub fails : List ℕ
+  pub calls : ℕ
+  pub room : ℕ
+
+abbrev pub script_of : MemSink → Script
+script_of sink = record { piece = sink.piece; fails = sink.fails.items; calls = sink.calls; room = sink.room }

@@ -21,14 +21,14 @@ pub struct MemFiles {
 }
 
 impl MemFiles {
-    ghost use Rattle.dl_io.specs.Memory.{source_of, no_files, fails_of, is_reliable, Adds};
+    ghost use Rattle.dl_io.specs.Memory.{source_of, no_files, plan_of, is_reliable, Adds};
 
     /// No file at first. A read gives at most `piece` bytes, and `fails` has the numbers of the
     /// calls that fail, attach and read counted together from 1.
     pub fn new(alloc: Global, piece: usize, fails: &[u64]) -> Result<MemFiles, Memory>
         requires { 1 ≤ piece }
         ensures empty { IfOk result (λ files. source_of files ≡ no_files) }
-        ensures fails { IfOk result (λ files. fails_of files ≡ fails.now) }
+        ensures plan { IfOk result (λ files. plan_of files ≡ record { piece = piece; fails = fails.now; calls = 0 }) }
 
         // Said once more, path by path, for the first call of `add`.
         ensures none_there { IfOk result (λ files. (path : List ℕ) → (source_of files).bytes_at path ≡ None) }
@@ -51,8 +51,8 @@ impl MemFiles {
     pub fn add(&mut self, path: &str, bytes: &[u8]) -> Result<(), Memory>
         requires is_new { (source_of self.old).bytes_at path.now ≡ None }
         requires unread { (source_of self.old).attached ≡ None }
-        ensures ok { OnOk result (Adds (fails_of self.old) (source_of self.old) (source_of self.new) path.now bytes.now) }
-        ensures fails { fails_of self.new ≡ fails_of self.old }
+        ensures ok { OnOk result (Adds (plan_of self.old).fails (source_of self.old) (source_of self.new) path.now bytes.now) }
+        ensures plan { plan_of self.new ≡ plan_of self.old }
         ensures err { OnErr result (source_of self.new ≡ source_of self.old) }
 
         // Said once more for the next call of `add`.

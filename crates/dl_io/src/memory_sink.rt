@@ -16,13 +16,14 @@ pub struct MemSink {
 }
 
 impl MemSink {
-    ghost use Rattle.dl_io.specs.Memory.{taken_of};
+    ghost use Rattle.dl_io.specs.Memory.{taken_of, script_of};
 
     /// A sink with room for so many bytes, of which a call takes at most `piece`. `fails` has the
     /// numbers, counted from 1, of the calls that fail.
     pub fn new(alloc: Global, piece: usize, fails: &[u64], room: usize) -> Result<MemSink, Memory>
         requires { 1 ≤ piece }
-        ensures { IfOk result (λ sink. taken_of sink ≡ record { written = Some []; faults = 0 }) }
+        ensures empty { IfOk result (λ sink. taken_of sink ≡ record { written = Some []; faults = 0 }) }
+        ensures script { IfOk result (λ sink. script_of sink ≡ record { piece = piece; fails = fails.now; calls = 0; room = room }) }
     {
         Ok(MemSink {
             bytes: Vec::with_capacity(alloc, room)?,

@@ -1,5 +1,5 @@
 -- The number of objects.
-use Rattle.std.proofs.Common.{◌≡◌, ℕ, length, ap, sym, ◌∙◌}
+use Rattle.std.proofs.Common.{◌≡◌, ℕ, length, ap, ◌∙◌}
 use Rattle.std.specs.FinMap as map
 use Rattle.std.specs.FinMap.{len-entries, entries-from_sorted}
 use Rattle.dl_ir.specs.Heap.{name_cmp}

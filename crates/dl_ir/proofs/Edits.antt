@@ -1,11 +1,10 @@
 -- What an edit of the sorted entries does to the heap that they make.
-use Rattle.std.proofs.Common.{◌≡◌, ℕ, suc, ◌+◌, ◌<◌, ◌≤◌, Bool, true, false, cond, not, List, [], ◌∷◌, length, set, refl, sym, ap, subst, ◌∙◌, T, Option, Some, None, arith}
+use Rattle.std.proofs.Common.{◌≡◌, ℕ, ◌<◌, ◌≤◌, Bool, true, false, cond, not, length, set, refl, sym, ap, subst, ◌∙◌, T, Some, None, arith}
 use Rattle.std.specs.List.{insert, remove, slice_get}
 use Rattle.std.specs.Ordering.{is_eq, eq_by_cmp}
-use Rattle.std.specs.declared.cmp.Ordering.TheVariants.{Equal}
 use Rattle.std.specs.FinMap as map
 use Rattle.std.specs.FinMap.{find, put, is_sorted, get-from_sorted, get-remove, entries-from_sorted, entries-insert, same_entries_map, same_map}
-use Rattle.std.specs.FinMap.Entries.{where_key, is_sorted-put, is_sorted-where_key, find-where_key}
+use Rattle.std.specs.FinMap.Entries.{is_sorted-put, is_sorted-where_key, find-where_key}
 use Rattle.std.proofs.lemmas.Cmp.{alike_right, eq_by_cmp_equiv}
 use Rattle.std.proofs.lemmas.List.{length-set}
 use Rattle.std.proofs.lemmas.List.Edits.{length-insert, length-remove}

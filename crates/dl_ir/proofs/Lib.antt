@@ -1,7 +1,7 @@
 mod Counted
 mod Edits
 mod Entries
-mod NameOrder
+pub mod NameOrder
 mod Sealing
 mod StartHeap
 mod Starts

@@ -1,9 +1,8 @@
 -- The start heap of a module is a heap of it.
-use Rattle.std.proofs.Common.{◌≡◌, ℕ, zero, suc, ◌+◌, ◌<◌, ◌≤◌, Bool, true, false, cond, List, [], ◌∷◌, ◌++◌, length, map, refl, sym, ap, subst, ◌∙◌, Option, Some, None, arith, ◌⊎◌, inl, inr}
+use Rattle.std.proofs.Common.{◌≡◌, ℕ, zero, suc, ◌+◌, ◌<◌, ◌≤◌, true, false, cond, List, [], ◌∷◌, ◌++◌, refl, sym, ap, subst, ◌∙◌, Some, arith, ◌⊎◌, inl, inr}
 use Rattle.std.specs.List.{slice_get}
 use Rattle.std.specs.Cmp.{Equal-is}
 use Rattle.std.specs.Ordering.{is_eq, eq_by_cmp}
-use Rattle.std.specs.declared.cmp.Ordering.TheVariants.{Less, Equal, Greater}
 use Rattle.std.specs.FinMap as maps
 use Rattle.std.specs.FinMap.{find, get-from_entries}
 use Rattle.std.proofs.lemmas.Bool.{cases_lt}
@@ -17,10 +16,10 @@ use Rattle.dl_ir.specs.declared.modules.Ty.TheVariants.{Int, Of}
 use Rattle.dl_ir.specs.declared.names.Name.{Name}
 use Rattle.dl_ir.specs.declared.names.Value.{Value}
 use Rattle.dl_ir.specs.declared.objects.Obj.{Obj}
-use Rattle.dl_ir.specs.Heap.{Objects, name_cmp, root, roots_from, roots_of, blank, blank_fields, blank_object, start_objects, StandInRow, HasRootsAt, HasStart, IsRootOf, IsNodeKind, HasType, HasFields, IsHeapOf}
+use Rattle.dl_ir.specs.Heap.{Objects, name_cmp, root, roots_from, roots_of, blank, blank_fields, blank_object, start_objects, StandInRow, HasRootsAt, HasStart, HasType, HasFields, IsHeapOf}
 use Rattle.dl_ir.proofs.NameOrder.{names_total, exact_names, less_turned}
 use Rattle.dl_ir.proofs.Entries.{Held}
-use Rattle.dl_ir.proofs.Starts.{row_bound, begins, below_root}
+use Rattle.dl_ir.proofs.Starts.{begins, below_root}
 
 -- the name is one of so many roots
 record IsAmong (name : Name) (first count : ℕ) : Type 0 where
@@ -40,9 +39,9 @@ found_among name first (suc count) o rest p is =
           let index : name.index ≡ first = ap (λ (n : Name). n.index) same in
           inl (record { ticket = ap (λ (n : Name). n.ticket) same; from_first = omega arith; to_last = omega arith }, cc)
       | false ↦ λ t found. elim (found_among name (first + 1) count o rest p found) [
-          | inl among ↦ inl (record { ticket = among.0.ticket; from_first = omega (arith, among.0.from_first); to_last = omega (arith, among.0.to_last) }, among.1)
-          | inr behind ↦ inr behind
-        ]
+        | inl among ↦ inl (record { ticket = among.0.ticket; from_first = omega (arith, among.0.from_first); to_last = omega (arith, among.0.to_last) }, among.1)
+        | inr behind ↦ inr behind
+      ]
     ] refl is
 
 -- what is found among the roots of kinds is a root of one of them
@@ -50,11 +49,11 @@ found_kind : (name : Name) (kind : ℕ) (kinds : List KindDecl) (p : Obj) → fi
     → (i : ℕ) × (d : KindDecl) × (slice_get kinds i ≡ Some d) × IsAmong name d.first d.count × (p ≡ blank_object (kind + i) d)
 found_kind name kind [] p is = cc
 found_kind name kind (d ∷ kinds) p is = elim (found_among name d.first d.count (blank_object kind d) (roots_of (kind + 1) kinds) p is) [
-    | inl among ↦ (0, d, refl, among.0, among.1 ∙ ap (λ k. blank_object k d) {x = kind} {y = kind + 0} (omega arith))
-    | inr behind ↦
-        let rest = found_kind name (kind + 1) kinds p behind in
-        (suc rest.0, rest.1, rest.2, rest.3, rest.4 ∙ ap (λ k. blank_object k rest.1) {x = kind + 1 + rest.0} {y = kind + suc rest.0} (omega arith))
-  ]
+  | inl among ↦ (0, d, refl, among.0, among.1 ∙ ap (λ k. blank_object k d) {x = kind} {y = kind + 0} (omega arith))
+  | inr behind ↦
+      let rest = found_kind name (kind + 1) kinds p behind in
+      (suc rest.0, rest.1, rest.2, rest.3, rest.4 ∙ ap (λ k. blank_object k rest.1) {x = kind + 1 + rest.0} {y = kind + suc rest.0} (omega arith))
+]
 
 -- a kind of the row has its roots from some number on
 row_at : (next : ℕ) (kinds : List KindDecl) (i : ℕ) (d : KindDecl) → StandInRow next kinds → slice_get kinds i ≡ Some d → (at : ℕ) × (next ≤ at) × HasRootsAt at d
@@ -89,7 +88,7 @@ find_kind index next kind [] i d row is is_root low high = cc
 find_kind index next kind (e ∷ kinds) zero d row is is_root low high =
     let same : e ≡ d = cc in
     subst (λ (f : KindDecl). find name_cmp (root index) (roots_from f.first f.count (blank_object kind f) ++ roots_of (kind + 1) kinds) ≡ Some (blank_object (kind + 0) d)) (sym same) (
-      find_among index d.first d.count (blank_object kind d) (roots_of (kind + 1) kinds) low high ∙ ap (λ k. Some (blank_object k d)) {x = kind} {y = kind + 0} (omega arith))
+    find_among index d.first d.count (blank_object kind d) (roots_of (kind + 1) kinds) low high ∙ ap (λ k. Some (blank_object k d)) {x = kind} {y = kind + 0} (omega arith))
 find_kind index next kind (e ∷ kinds) (suc i) d row is is_root low high =
     let at = row_at (next + e.count) kinds i d row.1 is in
     let first = at.2.of_root is_root in
@@ -134,29 +133,29 @@ module _ (m : Module) (start : HasStart m) where
   pub start_is_heap : IsHeapOf m (start_objects m)
   start_is_heap = record {
     roots = λ kind name is.
-      let same : root name.index ≡ name = ap (λ t. record { ticket = t; index = name.index }) (sym is.ticket) in
-      let object = blank_object kind is.declared in
-      let here : find name_cmp (root name.index) (roots_of 0 m.kinds) ≡ Some object =
+        let same : root name.index ≡ name = ap (λ t. record { ticket = t; index = name.index }) (sym is.ticket) in
+        let object = blank_object kind is.declared in
+        let here : find name_cmp (root name.index) (roots_of 0 m.kinds) ≡ Some object =
         find_kind name.index 0 0 m.kinds kind is.declared start.row is.is_there is.is_root is.from_first is.to_last ∙ ap (λ k. Some (blank_object k is.declared)) {x = 0 + kind} {y = kind} (omega arith) in
-      (object, found name ∙ subst (λ n. find name_cmp n (roots_of 0 m.kinds) ≡ Some object) same here, refl, refl);
+        (object, found name ∙ subst (λ n. find name_cmp n (roots_of 0 m.kinds) ≡ Some object) same here, refl, refl);
     exposed = λ name object is ticket.
-      let got = of_kind name object is in
-      let at = row_at 0 m.kinds got.0 got.1 start.row got.2 in
-      let kind : object.kind ≡ got.0 = ap (λ (o : Obj). o.kind) got.4 in
-      record {
-        declared = got.1;
-        is_there = ap (slice_get m.kinds) kind ∙ got.2;
-        is_root = has_roots at.0 got.1 at.2 (omega (arith, got.3.from_first, got.3.to_last));
-        ticket = ticket;
-        from_first = got.3.from_first;
-        to_last = got.3.to_last;
-      };
+        let got = of_kind name object is in
+        let at = row_at 0 m.kinds got.0 got.1 start.row got.2 in
+        let kind : object.kind ≡ got.0 = ap (λ (o : Obj). o.kind) got.4 in
+        record {
+          declared = got.1;
+          is_there = ap (slice_get m.kinds) kind ∙ got.2;
+          is_root = has_roots at.0 got.1 at.2 (omega (arith, got.3.from_first, got.3.to_last));
+          ticket = ticket;
+          from_first = got.3.from_first;
+          to_last = got.3.to_last;
+        };
     hidden = λ name object is hidden. let got = of_kind name object is in absurd (omega (arith, got.3.ticket, hidden));
     fields = λ name object declared is has.
-      let got = of_kind name object is in
-      let kind : object.kind ≡ got.0 = ap (λ (o : Obj). o.kind) got.4 in
-      let there : slice_get m.kinds got.0 ≡ Some declared = ap (slice_get m.kinds) (sym kind) ∙ has in
-      let same : got.1 ≡ declared = same_some (sym got.2 ∙ there) in
-      let held : blank_fields declared.fields ≡ object.fields = ap (λ (k : KindDecl). blank_fields k.fields) (sym same) ∙ sym (ap (λ (o : Obj). o.fields) got.4) in
-      subst (HasFields (start_objects m) declared.fields) held (blank_has_fields (start_objects m) declared.fields);
+        let got = of_kind name object is in
+        let kind : object.kind ≡ got.0 = ap (λ (o : Obj). o.kind) got.4 in
+        let there : slice_get m.kinds got.0 ≡ Some declared = ap (slice_get m.kinds) (sym kind) ∙ has in
+        let same : got.1 ≡ declared = same_some (sym got.2 ∙ there) in
+        let held : blank_fields declared.fields ≡ object.fields = ap (λ (k : KindDecl). blank_fields k.fields) (sym same) ∙ sym (ap (λ (o : Obj). o.fields) got.4) in
+        subst (HasFields (start_objects m) declared.fields) held (blank_has_fields (start_objects m) declared.fields);
   }

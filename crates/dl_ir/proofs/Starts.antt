@@ -1,17 +1,15 @@
 -- The start heap: its roots in a row.
-use Rattle.std.proofs.Common.{◌≡◌, ℕ, zero, suc, ◌+◌, ◌<◌, ◌≤◌, Bool, true, false, cond, ◌&&◌, List, [], ◌∷◌, ◌++◌, length, map, refl, sym, ap, subst, ◌∙◌, T, Option, Some, None, arith, append_assoc, length-append, ◌⊎◌, inl, inr, eqb}
-use Rattle.std.specs.List.{slice_get, AllByRecursion}
-use Rattle.std.specs.Ordering.{is_lt, is_eq, eq_by_cmp, nat_cmp}
+use Rattle.std.proofs.Common.{◌≡◌, ℕ, zero, suc, ◌+◌, ◌<◌, ◌≤◌, Bool, true, false, cond, ◌&&◌, List, [], ◌∷◌, ◌++◌, length, refl, sym, ap, subst, ◌∙◌, T, arith, length-append, ◌⊎◌, inl, inr, eqb}
+use Rattle.std.specs.Ordering.{is_lt}
 use Rattle.std.specs.declared.cmp.Ordering.TheVariants.{Less, Equal, Greater}
 use Rattle.std.specs.FinMap as maps
-use Rattle.std.specs.FinMap.{find, is_sorted, get-from_sorted, get-from_entries, same_map, len-entries, entries-from_sorted}
+use Rattle.std.specs.FinMap.{is_sorted, get-from_sorted, get-from_entries, same_map, len-entries, entries-from_sorted}
 use Rattle.std.specs.FinMap.Entries.{below_all}
 use Rattle.std.proofs.lemmas.Bool.{lt-ltb}
 use Rattle.dl_ir.specs.declared.modules.Module.{Module}
 use Rattle.dl_ir.specs.declared.modules.KindDecl.{KindDecl}
-use Rattle.dl_ir.specs.declared.names.Name.{Name}
 use Rattle.dl_ir.specs.declared.objects.Obj.{Obj}
-use Rattle.dl_ir.specs.Heap.{Objects, name_cmp, root, roots_from, roots_of, blank_object, start_objects, StandInRow, HasRootsAt, HasStart}
+use Rattle.dl_ir.specs.Heap.{name_cmp, root, roots_from, roots_of, blank_object, start_objects, StandInRow, HasRootsAt}
 use Rattle.dl_ir.proofs.NameOrder.{names_total, exact_names}
 use Rattle.dl_ir.proofs.Entries.{Held, yes}
 use Rattle.dl_ir.proofs.Edits.{made}

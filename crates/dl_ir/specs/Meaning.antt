@@ -136,6 +136,12 @@ loops (suc n) c body s =
     else with_truth (holds_of c s.locals) (take_turn s)
     (λ b. if b then then_do (body (take_turn s)) (loops n c body) else goes_on (take_turn s))
 
+-- a field of the object that a local refers to gets a reference, or the operation ends at null or at a sealed old target
+abbrev pub links_to : ℕ → ℕ → Option Name → Does
+links_to q f target s =
+    at_object (refers_in s q) s (λ name.
+    unless_sealed (target_of (field_in s name f)) s (goes_on (set_field name f (Ref target) s)))
+
 -- one level of a statement, the statements in it being replaced by what they do
 abbrev pub step : Context → Stmt-F Does → Does
 step cx (Stmt-F.SetInt x e) s = with_value (value_of e s.locals) s (λ n. goes_on (set_local x (Int n) s))
@@ -148,12 +154,8 @@ step cx (Stmt-F.Follow p q f) s =
     at_object (refers_in s q) s (λ name.
     let target = target_of (field_in s name f) in unless_sealed target s (goes_on (set_local p (Ref target) s)))
 step cx (Stmt-F.New p kind) s = if nat_le cx.allocs s.made then ends_with ends.Quota s else goes_on (make cx p kind s)
-step cx (Stmt-F.Link q f p) s =
-    at_object (refers_in s q) s (λ name.
-    unless_sealed (target_of (field_in s name f)) s (goes_on (set_field name f (Ref (refers_in s p)) s)))
-step cx (Stmt-F.Cut q f) s =
-    at_object (refers_in s q) s (λ name.
-    unless_sealed (target_of (field_in s name f)) s (goes_on (set_field name f (Ref None) s)))
+step cx (Stmt-F.Link q f p) s = links_to q f (refers_in s p) s
+step cx (Stmt-F.Cut q f) s = links_to q f None s
 step cx (Stmt-F.If c yes_block no_block) s =
     with_truth (holds_of c s.locals) s (λ b. if b then in_turn yes_block s else in_turn no_block s)
 step cx (Stmt-F.While c body) s = loops s.turns c (in_turn body) s

@@ -1,6 +1,5 @@
 -- Places in the sorted list of a heap's entries.
-use Rattle.std.specs.Prelude.{◌≡◌, ℕ, suc, zero, ◌≤◌, Bool, true, IsTrue, List, [], ◌∷◌, length, ◌&&◌, ◌||◌, nat_lt, nat_le}
-use Rattle.std.specs.declared.cmp.Ordering.{Ordering}
+use Rattle.std.specs.Prelude.{◌≡◌, ℕ, suc, zero, ◌≤◌, true, List, [], ◌∷◌, length}
 use Rattle.std.specs.declared.cmp.Ordering.TheVariants.{Less, Equal, Greater}
 use Rattle.std.specs.FinMap.{is_sorted}
 use Rattle.dl_ir.specs.declared.names.Name.{Name}

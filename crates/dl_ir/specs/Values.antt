@@ -1,5 +1,5 @@
 -- How names and values are stored, by which proofs tell them apart.
-use Rattle.std.specs.Prelude.{◌≡◌, ℕ, ℤ, Option, Some, None, refl}
+use Rattle.std.specs.Prelude.{◌≡◌, ℕ, ℤ, Option, refl}
 use Rattle.std.specs.Coded.{Coded, code_by, coded×, coded⊎, coded_ℕ, coded_ℤ, coded_option}
 use Rattle.std.proofs.Common.{◌⊎◌, inl, inr}
 use Rattle.dl_ir.specs.declared.names.Name.{Name}

@@ -4,3 +4,4 @@ pub mod Operation
 pub mod Replay
 pub mod Pool
 pub mod Closed
+pub mod Forests

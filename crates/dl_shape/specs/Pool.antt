@@ -56,7 +56,7 @@ pub data ReturnsFit (source : Module) (files : List (List Call)) : Objects → L
   ends : {heap : Objects} → ReturnsFit source files heap []
   goes_on : {heap : Objects} {entry : Entry} {rest : List Entry}
       → allocs_at source files entry.caller entry.index + hidden_count heap
-        ≡ entry.returned + hidden_count (after_call source heap entry.ticket (call_at files entry.caller entry.index))
+      ≡ entry.returned + hidden_count (after_call source heap entry.ticket (call_at files entry.caller entry.index))
       → ReturnsFit source files (after_call source heap entry.ticket (call_at files entry.caller entry.index)) rest
       → ReturnsFit source files heap (entry ∷ rest)
 

@@ -1,1 +1,5 @@
 pub mod Built
+pub mod WordCuts
+pub mod Numbers
+pub mod CallSteps
+pub mod CallsAreOf

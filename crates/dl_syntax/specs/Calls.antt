@@ -1,5 +1,5 @@
 -- Operation files: which calls of a module a text says, and the first fault of a text that says none.
-use Rattle.std.specs.Prelude.{◌≡◌, ◌≢◌, ℕ, ◌+◌, Bool, true, false, ◌&&◌, ◌==◌, nat_le, nat_lt, if◌then◌else◌, List, [], ◌∷◌, ◌++◌, length, slice_get, position, find, Option, Some, None, Result, Ok, Err, ℤ, pos, negsuc}
+use Rattle.std.specs.Prelude.{◌≡◌, ◌≢◌, ℕ, ◌+◌, Bool, true, false, ◌&&◌, ◌==◌, nat_le, nat_lt, if◌then◌else◌, List, [], ◌∷◌, ◌++◌, length, slice_get, position, find, Option, Some, None, Result, Ok, Err, ℤ, pos}
 use Rattle.std.specs.Str.{bytes_eq}
 use Rattle.dl_ir.specs.declared.modules.Ty.{Ty}
 use Rattle.dl_ir.specs.declared.modules.Ty.TheVariants.{Int, Of}
@@ -49,8 +49,8 @@ abbrev pub call_of_found : Module → ℕ → List (List ℕ) → Option ℕ →
 call_of_found source line words None = Err (NoOp line)
 call_of_found source line words (Some op) = call_of_op source line words op (slice_get source.ops op)
 
--- what the words of a line say: no call where there is none, and else one more than the calls before, of which 65,536
--- are the most
+-- what the words of a line say behind so many calls: nothing where there is no word, else a call, where the calls are at
+-- most 65,536
 abbrev pub call_of_words : Module → ℕ → ℕ → List (List ℕ) → Result (Option Call) CallsFault
 call_of_words source line before [] = Ok None
 call_of_words source line before (name ∷ words) =
@@ -69,7 +69,7 @@ call_unless_wrong source line before text None = call_of_words source line befor
 abbrev pub call_of_line : Module → ℕ → ℕ → List ℕ → Result (Option Call) CallsFault
 call_of_line source line before text = call_unless_wrong source line before text (find is_wrong text)
 
--- the calls before with what the next line says, if it is at fault with nothing
+-- the calls before, and behind them the one that a line says, if it says one
 abbrev pub with_call : List Call → Option Call → List Call
 with_call calls None = calls
 with_call calls (Some call) = calls ++ call ∷ []

@@ -1,2 +1,4 @@
 pub mod Limits
 pub mod Counter
+pub mod Line
+pub mod Calls

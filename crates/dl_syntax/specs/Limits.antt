@@ -1,5 +1,5 @@
 -- The limits that each tree of a module text keeps.
-use Rattle.std.specs.Prelude.{◌≡◌, ◌+◌, ◌≤◌, ℕ, true, length, sum_by, All}
+use Rattle.std.specs.Prelude.{◌≡◌, ◌+◌, ◌≤◌, true, length, sum_by, All}
 use Rattle.dl_syntax.specs.declared.tree.Tree.{Tree}
 use Rattle.dl_syntax.specs.declared.tree.TreeKind.{TreeKind}
 use Rattle.dl_syntax.specs.declared.tree.TreeOp.{TreeOp}

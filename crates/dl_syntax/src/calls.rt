@@ -23,6 +23,11 @@ pub enum CallsFault {
 }
 
 impl From<AllocError> for CallsFault {
+    ghost use Rattle.std.specs.Prelude.{◌≡◌};
+    ghost use Rattle.dl_syntax.specs.declared.calls.CallsFault.TheVariants.{Memory};
+
+    ghost from_gives = { λ _ fault. fault ≡ Memory };
+
     fn from(_fault: AllocError) -> CallsFault {
         CallsFault::Memory
     }

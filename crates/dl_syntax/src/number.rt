@@ -1,9 +1,15 @@
 ghost use Rattle.std.specs.Prelude.{◌≡◌, ◌≤◌, ◌^◌, ◌-◌, IfOk, pos, neg_ℤ};
-ghost use Rattle.dl_syntax.specs.Line.{digits_of, at_most, number_of, numbers_of, words_of};
+ghost use Rattle.dl_syntax.specs.Line.{is_digit, digits_of, at_most, number_of, numbers_of, words_of};
 
 use crate::words::next_word;
 use sqlite_items::Items;
 use std::alloc::{AllocError, Global};
+
+fn is_digit(byte: u8) -> bool
+    ensures { result ≡ is_digit byte }
+{
+    matches!(byte, b'0'..=b'9')
+}
 
 /// The number that digits say, where each byte is one and the number is at most `most`.
 fn digits_up_to(digits: &[u8], most: u64) -> Option<u64>
@@ -15,11 +21,14 @@ fn digits_up_to(digits: &[u8], most: u64) -> Option<u64>
     }
     let mut n: u64 = 0;
     for digit in digits {
-        if !digit.is_ascii_digit() {
+        if !is_digit(*digit) {
             return None;
         }
         let unit = (*digit - b'0') as u64;
-        if unit > most || n > (most - unit) / 10 {
+        if unit > most {
+            return None;
+        }
+        if n > (most - unit) / 10 {
             return None;
         }
         n = 10 * n + unit;

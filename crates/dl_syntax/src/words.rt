@@ -5,13 +5,19 @@ ghost use Rattle.dl_syntax.specs.Line.{is_feed, is_blank, is_hash, words_of, bef
 fn blanks_len(bytes: &[u8]) -> usize
     ensures { result ≡ prefix_len is_blank bytes.now }
 {
-    bytes.iter().take_while(|b| matches!(**b, b' ' | b'\t' | b'\r')).count()
+    bytes
+        .iter()
+        .take_while(|b| matches!(**b, b' ' | b'\t' | b'\r'))
+        .count()
 }
 
 fn word_len(bytes: &[u8]) -> usize
     ensures { result ≡ prefix_len (λ b. not (is_blank b)) bytes.now }
 {
-    bytes.iter().take_while(|b| !matches!(**b, b' ' | b'\t' | b'\r')).count()
+    bytes
+        .iter()
+        .take_while(|b| !matches!(**b, b' ' | b'\t' | b'\r'))
+        .count()
 }
 
 fn line_len(bytes: &[u8]) -> usize
@@ -35,10 +41,12 @@ pub fn before_comment(line: &[u8]) -> &[u8]
 }
 
 /// The first line of a text, without the line feed behind it, and what follows that.
+#[tactic(auto, using(crate::proofs::WordCuts::front_within))]
 pub fn first_line(text: &[u8]) -> (&[u8], &[u8])
     requires { 0 < length text.now }
     ensures line { result.0.now ≡ take (prefix_len (λ b. not (is_feed b)) text.now) text.now }
-    ensures rest { result.1.now ≡ drop (prefix_len (λ b. not (is_feed b)) text.now + 1) text.now }
+    ensures rest { result.1.now ≡ drop 1 (drop (prefix_len (λ b. not (is_feed b)) text.now) text.now) }
+    ensures shorter { length result.1.now < length text.now }
 {
     let (line, rest) = text.split_at(line_len(text));
     match rest {
@@ -48,6 +56,7 @@ pub fn first_line(text: &[u8]) -> (&[u8], &[u8])
 }
 
 /// The first word of some bytes, and the bytes behind it.
+#[tactic(auto, using(crate::proofs::WordCuts::front_within))]
 pub fn next_word(bytes: &[u8]) -> Option<(&[u8], &[u8])>
     ensures cut { MatchOption result (words_of bytes.now ≡ []) (λ found. words_of bytes.now ≡ found.0.now ∷ words_of found.1.now) }
     ensures shorter { MatchOption result (0 ≤ length bytes.now) (λ found. length found.1.now < length bytes.now) }

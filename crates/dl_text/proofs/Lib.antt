@@ -2,3 +2,4 @@ pub mod Numbers
 pub mod Pieces
 pub mod Cuts
 pub mod State
+pub mod WritingLemmas

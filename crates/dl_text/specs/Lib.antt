@@ -1,3 +1,4 @@
 pub mod Bytes
 pub mod Text
 pub mod Scan
+pub mod Writing

@@ -24,8 +24,8 @@ loop-kind-preserved c =
     let row = c.loop-kind.invariant.row in
     record {
       items = rw c.in_ok-add_roots_of.ensures (
-        append_assoc es (roots_from d.first d.count (blank_object kind d)) (roots_of (kind + 1) (drop (kind + 1) kinds))
-        ∙ ap (λ l. es ++ roots_of kind l) (sym cut)
-        ∙ c.loop-kind.invariant.items);
+          append_assoc es (roots_from d.first d.count (blank_object kind d)) (roots_of (kind + 1) (drop (kind + 1) kinds))
+          ∙ ap (λ l. es ++ roots_of kind l) (sym cut)
+          ∙ c.loop-kind.invariant.items);
       row = (row.0 + d.count, (subst (StandInRow row.0) cut row.1).1);
     }

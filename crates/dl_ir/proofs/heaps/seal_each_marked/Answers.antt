@@ -1,4 +1,4 @@
-use Rattle.std.proofs.Common.{◌≡◌, ◌<◌, length, get_or, refl, sym, ap, ◌∙◌, false, arith}
+use Rattle.std.proofs.Common.{◌<◌, length, get_or, refl, sym, ◌∙◌, false, arith}
 use Rattle.std.proofs.lemmas.List.{length-set}
 use Rattle.dl_ir.specs.Marks.{sealed_if}
 use Rattle.dl_ir.proofs.Sealing.{sealed_more, sealed_all, element}

@@ -1,4 +1,3 @@
-use Rattle.std.proofs.Common.{length}
 use Rattle.dl_syntax.specs.Counter.{IsNumberField}
 use Rattle.dl_syntax.proofs.Built.{Built}
 use Rattle.dl_syntax.proofs.counter.fields_of.Given as goal

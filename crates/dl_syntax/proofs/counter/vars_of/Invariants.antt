@@ -1,4 +1,3 @@
-use Rattle.std.proofs.Common.{length}
 use Rattle.dl_syntax.specs.Counter.{IsNumberLocal}
 use Rattle.dl_syntax.proofs.Built.{Built}
 use Rattle.dl_syntax.proofs.counter.vars_of.Given as goal

@@ -1,4 +1,3 @@
-use Rattle.std.proofs.Common.{length}
 use Rattle.dl_syntax.specs.Limits.{IsOpInLimits}
 use Rattle.dl_syntax.proofs.Built.{Built}
 use Rattle.dl_syntax.proofs.module.operations.Given as goal

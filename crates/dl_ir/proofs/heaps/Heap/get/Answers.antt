@@ -1,4 +1,4 @@
-use Rattle.std.proofs.Common.{arith, sym, ap, ◌∙◌, Some}
+use Rattle.std.proofs.Common.{arith, ap, ◌∙◌, Some}
 use Rattle.std.proofs.lemmas.Option.{get_or_from_slice_get}
 use Rattle.dl_ir.proofs.Edits.{at_within, got, got_none}
 use Rattle.dl_ir.proofs.heaps.Heap.get.Goals as goal

@@ -1,5 +1,4 @@
-use Rattle.std.proofs.Common.{[], length, refl, ap, ◌∙◌}
-use Rattle.std.specs.FinMap as map
+use Rattle.std.proofs.Common.{[], length, ap, ◌∙◌}
 use Rattle.std.specs.FinMap.{len-entries, entries-from_sorted, empty_of_len}
 use Rattle.dl_ir.specs.Heap.{name_cmp}
 use Rattle.dl_ir.proofs.Edits.{made}

@@ -1,4 +1,4 @@
-use Rattle.std.proofs.Common.{length, sym, ap, ◌∙◌, arith}
+use Rattle.std.proofs.Common.{sym, ap, ◌∙◌, arith}
 use Rattle.std.specs.FinMap.{entries-from_sorted}
 use Rattle.dl_ir.specs.Heap.{name_cmp}
 use Rattle.dl_ir.specs.Marks.{seal_each}
@@ -24,4 +24,4 @@ invariant_of-self c =
 pub returns : goal.returns
 returns c =
     rw (← c.self.view_is, c.seal_each_marked.ensures.items) (ap (λ es. record { objects = made (seal_each es c.args.marks.now); room = c.self.inside.room }) (
-        sym (entries-from_sorted name_cmp c.self.inside.entries.items (holds _ c.self.invariant.sorted))))
+    sym (entries-from_sorted name_cmp c.self.inside.entries.items (holds _ c.self.invariant.sorted))))

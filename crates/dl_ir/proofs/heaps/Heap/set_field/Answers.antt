@@ -1,4 +1,4 @@
-use Rattle.std.proofs.Common.{set, sym, ap, ◌∙◌}
+use Rattle.std.proofs.Common.{set, ap, ◌∙◌}
 use Rattle.dl_ir.specs.declared.names.Name.{Name}
 use Rattle.dl_ir.specs.declared.objects.Obj.{Obj}
 use Rattle.dl_ir.specs.Heap.{with_field_of}
@@ -26,11 +26,11 @@ returns-in-Ok c =
     let object : Obj = record e.0.1 { fields = set e.0.1.fields c.args.field c.args.value } in
     let items = c.set_at.ensures.field e.0 e.1 ∙ ap (λ (n : Name). set c.self.inside.entries.items c.in-Ok.at (n, object)) e.2 in
     rw (← c.self.view_is, items) (ap (λ objects. record { objects = objects; room = c.self.inside.room }) (
-        made-set _ _ _ _ _ c.self.invariant found object
-        ∙ ap (with_field_of (made c.self.inside.entries.items) c.args.name c.args.field c.args.value) e.3))
+    made-set _ _ _ _ _ c.self.invariant found object
+    ∙ ap (with_field_of (made c.self.inside.entries.items) c.args.name c.args.field c.args.value) e.3))
 
 pub returns-in_default : goal.returns-in_default
 returns-in_default c =
     let absent = rw c.deref.ensures.value at c.in_default.ensures.absent in
     rw (← c.self.view_is) (ap (λ objects. record { objects = objects; room = c.self.inside.room }) (
-        ap (with_field_of (made c.self.inside.entries.items) c.args.name c.args.field c.args.value) (got_none _ _ _ _ _ c.self.invariant absent)))
+    ap (with_field_of (made c.self.inside.entries.items) c.args.name c.args.field c.args.value) (got_none _ _ _ _ _ c.self.invariant absent)))

@@ -1,7 +1,6 @@
-use Rattle.std.proofs.Common.{◌≡◌, ◌+◌, ◌++◌, length, sym, ap, subst, ◌∙◌, arith}
-use Rattle.dl_ir.specs.Heap.{Objects, roots_of, start_objects, IsHeapOf}
-use Rattle.dl_ir.proofs.Entries.{Held, yes}
-use Rattle.dl_ir.proofs.Edits.{made}
+use Rattle.std.proofs.Common.{◌≡◌, ◌+◌, length, sym, ap, subst, ◌∙◌, arith}
+use Rattle.dl_ir.specs.Heap.{roots_of, IsHeapOf}
+use Rattle.dl_ir.proofs.Entries.{yes}
 use Rattle.dl_ir.proofs.Starts.{roots_sorted, made-roots, len-start}
 use Rattle.dl_ir.proofs.StartHeap.{start_is_heap}
 use Rattle.dl_ir.proofs.heaps.Heap.start.Goals as goal
@@ -28,4 +27,4 @@ pub returns-clause-of_module : goal.returns-clause-of_module
 returns-clause-of_module c =
     let added = rw (c.as_slice.ensures, c.new-entries.ensures.items) at c.in_ok-add_roots.ensures in
     rw (c.in_ok-reserve.ensures.items, added) (
-      subst (IsHeapOf c.args.declared.now) (sym (made-roots c.args.declared.now.kinds c.requires.row)) (start_is_heap c.args.declared.now c.requires))
+    subst (IsHeapOf c.args.declared.now) (sym (made-roots c.args.declared.now.kinds c.requires.row)) (start_is_heap c.args.declared.now c.requires))

@@ -1,4 +1,4 @@
-use Rattle.std.proofs.Common.{◌≡◌, ℕ, zero, suc, List, [], ◌∷◌, set, take, refl, sym, ap, ◌∙◌}
+use Rattle.std.proofs.Common.{◌≡◌, ℕ, zero, suc, List, [], ◌∷◌, set, take, refl, ap, ◌∙◌}
 use Rattle.dl_ir.specs.declared.names.Value.{Value}
 use Rattle.dl_ir.proofs.objects.Fields.set.Goals as goal
 

@@ -1,8 +1,8 @@
-ghost use Rattle.std.specs.Prelude.{◌≡◌, ◌≢◌, ◌≤◌, ◌<◌, ◌+◌, ◌^◌, List, length, slice_get, find, IfOk, IfErr, IfSome, MatchResult};
+ghost use Rattle.std.specs.Prelude.{◌≡◌, ◌≢◌, ◌≤◌, ◌<◌, ◌+◌, ◌^◌, List, length, slice_get, find, IfOk, IfErr, IfSome, MatchResult, OnOk, []};
 ghost use Rattle.dl_ir.specs.declared.calls.Call.{Call as CallOf};
 ghost use Rattle.dl_ir.specs.CallForms.{AreCallsOf};
 ghost use Rattle.dl_syntax.specs.declared.calls.CallsFault.{CallsFault as FaultOf};
-ghost use Rattle.dl_syntax.specs.Line.{is_wrong, words_of};
+ghost use Rattle.dl_syntax.specs.Line.{is_wrong, words_of, lines_of};
 ghost use Rattle.dl_syntax.specs.Calls as spec;
 ghost use Rattle.dl_syntax.specs.Calls.{Gives, IsCallsFile, IsCallsFault};
 
@@ -11,7 +11,7 @@ use crate::number::numbers;
 use crate::words::{before_comment, count_words, first_line, next_word};
 use dl_ir::{Call, Calls, LocalDecl, Module, Ty};
 use sqlite_items::Items;
-use std::alloc::Global;
+use std::alloc::{AllocError, Global};
 
 /// How many operations a file may have.
 const MAX_CALLS: usize = 65536;
@@ -36,7 +36,11 @@ fn wrong_byte(line: &[u8]) -> Option<u8>
 fn byte_fault(line: u32, byte: u8) -> CallsFault
     ensures { result ≡ spec.byte_fault line byte }
 {
-    if byte >= 128 { CallsFault::NotAscii { line } } else { CallsFault::BadByte { line } }
+    if byte >= 128 {
+        CallsFault::NotAscii { line }
+    } else {
+        CallsFault::BadByte { line }
+    }
 }
 
 /// Whether an argument may be given for a parameter of this type.
@@ -47,7 +51,9 @@ fn fits(source: &Module, ty: Ty, argument: i64) -> bool
         return true;
     };
     match (source.kinds.get(kind as usize), u64::try_from(argument)) {
-        (Some(kind), Ok(n)) => kind.is_root && kind.first as u64 <= n && n < kind.first as u64 + kind.count as u64,
+        (Some(kind), Ok(n)) => kind.is_root
+            && kind.first as u64 <= n
+            && n < kind.first as u64 + kind.count as u64,
         _ => false,
     }
 }
@@ -73,11 +79,21 @@ fn op_named(source: &Module, name: &[u8]) -> Option<usize>
     ensures found { result ≡ spec.op_named source.now name.now }
     ensures within { IfSome result (λ op. op < length source.now.ops) }
 {
-    source.ops.as_slice().iter().position(|op| op.name.as_slice() == name)
+    source
+        .ops
+        .as_slice()
+        .iter()
+        .position(|op| op.name.as_slice() == name)
 }
 
 /// The call of an operation with the words as its arguments.
-fn call_of_op(alloc: Global, source: &Module, line: u32, op: usize, words: &[u8]) -> Result<Option<Call>, CallsFault>
+fn call_of_op(
+    alloc: Global,
+    source: &Module,
+    line: u32,
+    op: usize,
+    words: &[u8],
+) -> Result<Option<Call>, CallsFault>
     requires { op < 2 ^ 32 }
     ensures { Gives (spec.call_of_op source.now line (words_of words.now) op (slice_get source.now.ops op)) result }
 {
@@ -100,7 +116,13 @@ fn call_of_op(alloc: Global, source: &Module, line: u32, op: usize, words: &[u8]
 }
 
 /// The call that the words of a line say, behind so many calls.
-fn call_of_words(alloc: Global, source: &Module, line: u32, before: usize, words: &[u8]) -> Result<Option<Call>, CallsFault>
+fn call_of_words(
+    alloc: Global,
+    source: &Module,
+    line: u32,
+    before: usize,
+    words: &[u8],
+) -> Result<Option<Call>, CallsFault>
     requires { length source.now.ops ≤ 64 }
     ensures { Gives (spec.call_of_words source.now line before (words_of words.now)) result }
 {
@@ -117,7 +139,13 @@ fn call_of_words(alloc: Global, source: &Module, line: u32, before: usize, words
 }
 
 /// The call that a line says, behind so many calls.
-fn call_of_line(alloc: Global, source: &Module, line: u32, before: usize, text: &[u8]) -> Result<Option<Call>, CallsFault>
+fn call_of_line(
+    alloc: Global,
+    source: &Module,
+    line: u32,
+    before: usize,
+    text: &[u8],
+) -> Result<Option<Call>, CallsFault>
     requires { length source.now.ops ≤ 64 }
     ensures { Gives (spec.call_of_line source.now line before text.now) result }
 {
@@ -125,6 +153,35 @@ fn call_of_line(alloc: Global, source: &Module, line: u32, before: usize, text: 
         Some(byte) => Err(byte_fault(line, byte)),
         None => call_of_words(alloc, source, line, before, before_comment(text)),
     }
+}
+
+/// Adds the call of a line, if it says one.
+fn add_call(calls: &mut Calls, call: Option<Call>) -> Result<(), AllocError>
+    ensures { OnOk result (calls.new ≡ spec.with_call calls.old call) }
+{
+    match call {
+        Some(call) => calls.push(call),
+        None => Ok(()),
+    }
+}
+
+/// The calls that the lines of a text say.
+fn calls_of(alloc: Global, source: &Module, bytes: &[u8]) -> Result<Calls, CallsFault>
+    requires few_ops { length source.now.ops ≤ 64 }
+    requires short { length bytes.now ≤ 4294967294 }
+    ensures { Gives (spec.calls_from source.now 1 [] (lines_of bytes.now)) result }
+{
+    let mut calls = Items::new(alloc);
+    let mut line: u32 = 1;
+    let mut rest = bytes;
+    while !rest.is_empty() {
+        let (text, more) = first_line(rest);
+        let call = call_of_line(alloc, source, line, calls.len(), text)?;
+        add_call(&mut calls, call)?;
+        rest = more;
+        line += 1;
+    }
+    Ok(calls)
 }
 
 /// Reads an operation file of a module: an operation a line, by its name and its arguments. The first line at fault
@@ -143,16 +200,5 @@ pub fn read_calls(alloc: Global, bytes: &[u8], source: &Module) -> Result<Calls,
 
     ensures of_module { IfOk result (AreCallsOf source.now) }
 {
-    let mut calls = Items::new(alloc);
-    let mut line: u32 = 1;
-    let mut rest = bytes;
-    while !rest.is_empty() {
-        let (text, more) = first_line(rest);
-        if let Some(call) = call_of_line(alloc, source, line, calls.len(), text)? {
-            calls.push(call)?;
-        }
-        rest = more;
-        line += 1;
-    }
-    Ok(calls)
+    calls_of(alloc, source, bytes)
 }

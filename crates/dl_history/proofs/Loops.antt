@@ -1,0 +1,116 @@
+use Rattle.std.proofs.Common.{min, ◌≤◌, zero, suc, ◌≡◌, ℕ, ◌+◌, ◌<◌, Bool, false, List, [], ◌∷◌, ◌++◌, Result, Ok, Err, IsErr, IsOk, length, drop, get_or, refl, sym, ◌∙◌, ap, subst, arith, append_assoc, add-one, drop-cons}
+use Rattle.std.proofs.lemmas.List.{append-nil}
+use Rattle.std.proofs.Math.Seq.{drop-length, drop-nil}
+use Rattle.std.specs.List.{flat_map, zip}
+use Rattle.dl_io.specs.Taken.{Taken}
+use Rattle.dl_text.specs.Writing.{Buffered, Passes, Puts}
+use Rattle.dl_text.proofs.WritingLemmas.{Took-none, passes_both, passes_fails, puts_more}
+use Rattle.dl_history.specs.Report.{each_from}
+
+-- of a whole text some was put, and the rest is still to come
+pub record PutSoFar (start now : Taken) (out out_now : Buffered) (whole rest : List ℕ) : Type 0 where
+  pub put : List ℕ
+  pub passes : Passes start out put now out_now
+  pub splits : put ++ rest ≡ whole
+
+-- nothing was put yet
+pub put_start : (start : Taken) (out : Buffered) (whole : List ℕ) → out.failed ≡ false → PutSoFar start start out out whole whole
+put_start start out whole works = record {
+  put = [];
+  passes = record { works = works; later = omega arith; taken = []; took = Took-none start.written; whole = rw append-nil refl };
+  splits = refl;
+}
+
+-- a next piece was put
+pub put_step : {start now next : Taken} {out out_now out_next : Buffered} {whole rest piece more : List ℕ} → PutSoFar start now out out_now whole rest →
+    rest ≡ piece ++ more → Passes now out_now piece next out_next → PutSoFar start next out out_next whole more
+put_step {whole = whole} {piece = piece} {more = more} so_far is passes = record {
+  put = so_far.put ++ piece;
+  passes = passes_both so_far.passes passes;
+  splits = rw append_assoc (subst (λ text. so_far.put ++ text ≡ whole) is so_far.splits);
+}
+
+-- a next piece failed
+pub put_fails : {E F : Type 0} {start now next : Taken} {out out_now out_next : Buffered} {whole rest piece : List ℕ} (more : List ℕ) {e : E} {r : Result (Unit {0}) F} →
+    PutSoFar start now out out_now whole rest → rest ≡ piece ++ more → IsErr r → Puts now out_now piece (Err e) next out_next → Puts start out whole r next out_next
+put_fails {start = start} {next = next} {out = out} {out_next = out_next} {whole = whole} {piece = piece} more {r = r} so_far is is_err fails =
+    let all : (so_far.put ++ piece) ++ more ≡ whole = rw append_assoc (subst (λ rest. so_far.put ++ rest ≡ whole) is so_far.splits) in
+    subst (λ text. Puts start out text r next out_next) all (puts_more more is_err (passes_fails is_err so_far.passes fails))
+
+-- nothing is still to come
+pub put_ends : {E : Type 0} {start now : Taken} {out out_now : Buffered} {whole rest : List ℕ} {r : Result (Unit {0}) E} →
+    PutSoFar start now out out_now whole rest → rest ≡ [] → IsOk r → Puts start out whole r now out_now
+put_ends {start = start} {now = now} {out = out} {out_now = out_now} {whole = whole} {r = Ok x} so_far none is_ok =
+    let all : so_far.put ≡ whole = rw append-nil at (subst (λ rest. so_far.put ++ rest ≡ whole) none so_far.splits) in
+    record { ok = subst (λ text. Passes start out text now out_now) all so_far.passes; err = tt }
+put_ends {r = Err e} so_far none is_ok = cc
+
+-- the texts of the elements from a place on begin with that of the element there
+pub each_element : {A : Type 0} (line : A → List ℕ) (xs : List A) (i : ℕ) (d : A) → i < length xs →
+    flat_map line (drop i xs) ≡ line (get_or xs i d) ++ flat_map line (drop (i + 1) xs)
+each_element line xs i d within =
+    let cut : drop i xs ≡ get_or xs i d ∷ drop (i + 1) xs = rw (add-one, drop-cons xs i d) refl in
+    ap (flat_map line) cut
+
+-- the same, of an element that is known to stand there
+pub each_at : {A : Type 0} (line : A → List ℕ) (xs : List A) (i : ℕ) (x : A) → i < length xs → x ≡ get_or xs i x →
+    flat_map line (drop i xs) ≡ line x ++ flat_map line (drop (i + 1) xs)
+each_at line xs i x within is = each_element line xs i x within ∙ ap (λ y. line y ++ flat_map line (drop (i + 1) xs)) (sym is)
+
+-- no element comes behind the last one
+pub no_element : {A : Type 0} (line : A → List ℕ) (xs : List A) → flat_map line (drop (length xs) xs) ≡ []
+no_element line xs = ap (flat_map line) (drop-length xs)
+
+-- the texts of numbered elements from a place on begin with that of the element there
+pub each_numbered : {A : Type 0} (text : ℕ → A → List ℕ) (first : ℕ) (xs : List A) (i : ℕ) (d : A) → i < length xs →
+    each_from text (i + first) (drop i xs) ≡ text (i + first) (get_or xs i d) ++ each_from text (i + 1 + first) (drop (i + 1) xs)
+each_numbered text first xs i d within =
+    let cut : drop i xs ≡ get_or xs i d ∷ drop (i + 1) xs = rw (add-one, drop-cons xs i d) refl in
+    let next : i + first + 1 ≡ i + 1 + first = omega arith in
+    ap (each_from text (i + first)) cut ∙ ap (λ n. text (i + first) (get_or xs i d) ++ each_from text n (drop (i + 1) xs)) next
+
+-- the same, of an element that is known to stand there
+pub numbered_at : {A : Type 0} (text : ℕ → A → List ℕ) (first : ℕ) (xs : List A) (i : ℕ) (x : A) → i < length xs → x ≡ get_or xs i x →
+    each_from text (i + first) (drop i xs) ≡ text (i + first) x ++ each_from text (i + 1 + first) (drop (i + 1) xs)
+numbered_at text first xs i x within is =
+    each_numbered text first xs i x within ∙ ap (λ y. text (i + first) y ++ each_from text (i + 1 + first) (drop (i + 1) xs)) (sym is)
+
+-- no numbered element comes behind the last one
+pub no_numbered : {A : Type 0} (text : ℕ → A → List ℕ) (number : ℕ) (xs : List A) → each_from text number (drop (length xs) xs) ≡ []
+no_numbered text number xs = ap (each_from text number) (drop-length xs)
+
+-- what is left of two lists side by side begins with the elements there
+pub zip_next : {A B : Type 0} (xs : List A) (ys : List B) (i : ℕ) (d : A) (e : B) → i < length xs → i < length ys →
+    zip (drop i xs) (drop i ys) ≡ (get_or xs i d, get_or ys i e) ∷ zip (drop (i + 1) xs) (drop (i + 1) ys)
+zip_next xs ys i d e in_xs in_ys =
+    let cut : drop i xs ≡ get_or xs i d ∷ drop (i + 1) xs = rw (add-one, drop-cons xs i d) refl in
+    let cut' : drop i ys ≡ get_or ys i e ∷ drop (i + 1) ys = rw (add-one, drop-cons ys i e) refl in
+    ap (λ l. zip l (drop i ys)) cut ∙ ap (λ l. zip (get_or xs i d ∷ drop (i + 1) xs) l) cut'
+
+zip_nil : {A B : Type 0} (xs : List A) → zip {K = A} {X = B} xs [] ≡ []
+zip_nil [] = refl
+zip_nil (x ∷ xs) = refl
+
+-- nothing is side by side behind the end of the shorter list
+pub zip_ends : {A B : Type 0} (xs : List A) (ys : List B) (i : ℕ) → min (length xs) (length ys) ≤ i → zip (drop i xs) (drop i ys) ≡ []
+zip_ends [] ys i past = rw (drop-nil i) refl
+zip_ends (x ∷ xs) [] i past = rw (drop-nil i) (zip_nil (drop i (x ∷ xs)))
+zip_ends (x ∷ xs) (y ∷ ys) zero past = absurd (omega arith)
+zip_ends (x ∷ xs) (y ∷ ys) (suc i) past = zip_ends xs ys i (omega arith)
+
+-- the texts of pairs from a place on begin with that of the pair there
+pub pair_at : {A B : Type 0} (text : A × B → List ℕ) (xs : List A) (ys : List B) (i : ℕ) (x : A) (e : B) → i < length xs → i < length ys → x ≡ get_or xs i x →
+    flat_map text (zip (drop i xs) (drop i ys)) ≡ text (x, get_or ys i e) ++ flat_map text (zip (drop (i + 1) xs) (drop (i + 1) ys))
+pair_at text xs ys i x e in_xs in_ys is =
+    ap (flat_map text) (zip_next xs ys i x e in_xs in_ys)
+    ∙ ap (λ y. text (y, get_or ys i e) ++ flat_map text (zip (drop (i + 1) xs) (drop (i + 1) ys))) (sym is)
+
+-- below the lesser of two numbers is below each
+pub below_first : (i least a b : ℕ) → least ≡ min a b → i < least → i < a
+below_first i least a b is below = omega arith
+
+pub below_second : (i least a b : ℕ) → least ≡ min a b → i < least → i < b
+below_second i least a b is below = omega arith
+
+pub not_below : (i least a b : ℕ) → least ≡ min a b → least ≤ i → min a b ≤ i
+not_below i least a b is past = omega arith

@@ -1,0 +1,11 @@
+use Rattle.dl_history.proofs.Loops.{put_fails, put_step, numbered_at}
+use Rattle.dl_history.specs.Report.{answer_lines}
+use Rattle.dl_history.proofs.operations.put_all_answer_lines.Goals as goal
+
+pub returns-in_err-put_answer_lines : goal.returns-in_err-put_answer_lines
+returns-in_err-put_answer_lines g c =
+    put_fails _ c.callers.invariant (numbered_at (answer_lines c.args.entries.now c.args.refusals.now) 1 c.args.files.now c.callers.i c.index-files-i.result c.callers-test.true c.index-files-i.is) c.from_residual.ensures.0 c.in_err-put_answer_lines.ensures
+
+pub callers-preserved : goal.callers-preserved
+callers-preserved g c =
+    put_step c.callers.invariant (numbered_at (answer_lines c.args.entries.now c.args.refusals.now) 1 c.args.files.now c.callers.i c.index-files-i.result c.callers-test.true c.index-files-i.is) c.in_ok-put_answer_lines.ensures.ok

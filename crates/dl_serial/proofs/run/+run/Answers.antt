@@ -1,0 +1,41 @@
+use Rattle.std.proofs.Common.{arith, sym, ap, ◌∙◌, Ok}
+use Rattle.dl_serial.specs.Frames.{state_of, context_of}
+use Rattle.dl_ir.specs.Meaning.{block_does}
+use Rattle.dl_ir.specs.declared.statements.Stmt.TheVariants.{outs-SetInt, outs-Load, outs-Store, outs-Copy, outs-Null, outs-Follow}
+use Rattle.dl_serial.proofs.Counts.{grows_on}
+use Rattle.dl_serial.proofs.Levels.{one_level}
+use Rattle.dl_serial.proofs.Turns.{turn, is_none_of}
+use Rattle.dl_serial.proofs.run.+run.Goals as goal
+
+pub run_loop-loop-frame-preserved : goal.run_loop-loop-frame-preserved
+run_loop-loop-frame-preserved t c =
+    let i = c.loop-frame.invariant.gives in
+    let next = turn c.args.c.now (block_does (context_of c.args.source.now c.args.task) c.args.body.now) (state_of c.loop-frame.frame c.loop-frame.heap) (state_of c.run_block-end.new.frame c.run_block-end.new.heap) i.0
+    c.loop-frame-test.true i.1 (rw (← c.deref.ensures.value) (sym c.in-Ok-true.ensures ∙ ap Ok c.in-Ok-true.field-0-test))
+    (c.run_block-end.ensures.gives ∙ ap (λ e. record { state = state_of c.run_block-end.new.frame c.run_block-end.new.heap; end = e }) (is_none_of _ c.if-is_some.ensures))
+    c.run_block-end.ensures.turns in
+    record {
+      gives = (next.0, next.1, next.2 ∙ i.2);
+      turns = omega arith;
+      room = c.run_block-end.ensures.room;
+      same_room = c.run_block-end.ensures.same_room ∙ c.loop-frame.invariant.same_room;
+      grows = grows_on c.loop-frame.invariant.grows c.run_block-end.ensures.grows;
+    }
+
+pub run_stmt-returns-in-SetInt-clause-gives : goal.run_stmt-returns-in-SetInt-clause-gives
+run_stmt-returns-in-SetInt-clause-gives t c = let cx = context_of c.args.source.now c.args.task in rw c.in-SetInt.is (one_level cx _ _ _ (outs-SetInt _ _) ∙ c.run_set_int.ensures.gives cx)
+
+pub run_stmt-returns-in-Load-clause-gives : goal.run_stmt-returns-in-Load-clause-gives
+run_stmt-returns-in-Load-clause-gives t c = let cx = context_of c.args.source.now c.args.task in rw c.in-Load.is (one_level cx _ _ _ (outs-Load _ _ _) ∙ c.run_load.ensures.gives cx)
+
+pub run_stmt-returns-in-Store-clause-gives : goal.run_stmt-returns-in-Store-clause-gives
+run_stmt-returns-in-Store-clause-gives t c = let cx = context_of c.args.source.now c.args.task in rw c.in-Store.is (one_level cx _ _ _ (outs-Store _ _ _) ∙ c.run_store.ensures.gives cx)
+
+pub run_stmt-returns-in-Copy-clause-gives : goal.run_stmt-returns-in-Copy-clause-gives
+run_stmt-returns-in-Copy-clause-gives t c = let cx = context_of c.args.source.now c.args.task in rw c.in-Copy.is (one_level cx _ _ _ (outs-Copy _ _) ∙ c.run_copy.ensures.gives cx)
+
+pub run_stmt-returns-in-Null-clause-gives : goal.run_stmt-returns-in-Null-clause-gives
+run_stmt-returns-in-Null-clause-gives t c = let cx = context_of c.args.source.now c.args.task in rw c.in-Null.is (one_level cx _ _ _ (outs-Null _) ∙ c.run_null.ensures.gives cx)
+
+pub run_stmt-returns-in-Follow-clause-gives : goal.run_stmt-returns-in-Follow-clause-gives
+run_stmt-returns-in-Follow-clause-gives t c = let cx = context_of c.args.source.now c.args.task in rw c.in-Follow.is (one_level cx _ _ _ (outs-Follow _ _ _) ∙ c.run_follow.ensures.gives cx)

@@ -1,0 +1,49 @@
+use Rattle.std.proofs.Common.{◌≡◌, ◌∷◌, [], arith, length, refl, ap, subst}
+use Rattle.std.proofs.lemmas.Option.{slice_get_read}
+use Rattle.dl_shape.specs.Replay.{IsLegalFrom}
+use Rattle.dl_serial.proofs.Covering.{serves_covers}
+use Rattle.dl_serial.proofs.Laws.{serves_replayed, serves_legal}
+use Rattle.dl_serial.proofs.Rising.{serves_rise}
+use Rattle.dl_serial.specs.Serving.{Serves, begins}
+use Rattle.dl_serial.proofs.serving.run_calls.Goals as goal
+
+pub loop-at-init : goal.loop-at-init
+loop-at-init c = rw (c.new.ensures, c.new-2.ensures) (record {
+  same = c.as_slice-call-items.ensures;
+  after = record {
+    serves = begins;
+    ticket = omega arith;
+    free = omega (arith, c.hidden_objects-hidden.ensures);
+    version = omega arith;
+    few = omega arith;
+    memory = c.requires.room;
+  };
+})
+
+pub loop-at-preserved : goal.loop-at-preserved
+loop-at-preserved c = record {
+  same = c.loop-at.invariant.same;
+  after = c.in_ok-serve.ensures c.args.places c.args.first c.loop-at.at c.args.heap.now.objects c.args.calls.now c.loop-at.invariant.after
+      (slice_get_read c.args.calls.now (length c.as_slice-call-items.result.now) c.loop-at.at c.call-item.result (ap length c.loop-at.invariant.same) c.loop-at-test.true (rw (← c.loop-at.invariant.same) c.call-item.is)) refl;
+}
+
+pub returns-clause-serves : goal.returns-clause-serves
+returns-clause-serves c =
+    let all : c.loop-at.at ≡ length c.args.calls.now = omega (arith, ap length c.loop-at.invariant.same) in
+    (c.loop-at.line.version, subst (λ n. Serves c.args.source.now c.args.places c.args.first c.args.heap.now.objects c.args.calls.now n c.loop-at.line.entries c.loop-at.line.refusals c.loop-at.heap.objects c.loop-at.line.version) all c.loop-at.invariant.after.serves)
+
+pub returns-clause-replay : goal.returns-clause-replay
+returns-clause-replay c = serves_replayed _ _ _ _ _ c.loop-at.invariant.after.serves
+
+pub returns-clause-legal : goal.returns-clause-legal
+returns-clause-legal c =
+    subst (λ n. IsLegalFrom c.args.source.now (c.args.calls.now ∷ []) n c.args.heap.now.objects c.loop-at.line.entries) c.requires.next (serves_legal _ _ _ _ _ c.loop-at.invariant.after.serves)
+
+pub returns-clause-covers : goal.returns-clause-covers
+returns-clause-covers c =
+    let all : c.loop-at.at ≡ length c.args.calls.now = omega (arith, ap length c.loop-at.invariant.same) in
+    serves_covers c.args.source.now c.args.places c.args.first c.args.heap.now.objects c.args.calls.now
+    (subst (λ n. Serves c.args.source.now c.args.places c.args.first c.args.heap.now.objects c.args.calls.now n c.loop-at.line.entries c.loop-at.line.refusals c.loop-at.heap.objects c.loop-at.line.version) all c.loop-at.invariant.after.serves)
+
+pub returns-clause-rising : goal.returns-clause-rising
+returns-clause-rising c = serves_rise _ _ _ _ _ c.loop-at.invariant.after.serves

@@ -1,0 +1,6 @@
+pub mod Arguments
+pub mod Frames
+pub mod Growth
+pub mod Progress
+pub mod Rooms
+pub mod Serving

@@ -1,0 +1,16 @@
+use dl_ir::Value;
+
+/// What the running operation is given: its ticket, and the number of objects that it may make.
+#[derive(Clone, Copy, Debug)]
+pub struct Task {
+    pub ticket: u64,
+    pub allocs: u32,
+}
+
+/// The locals of a running operation, the turns that it has left, and the number of objects that it has made.
+#[derive(Drop)]
+pub struct Frame {
+    pub locals: Vec<Value>,
+    pub turns: u32,
+    pub made: u32,
+}

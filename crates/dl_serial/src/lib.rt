@@ -1,0 +1,15 @@
+//! Running operations one after another, as their meaning says.
+#![tactic(auto)]
+
+mod frames;
+mod numbers;
+mod operations;
+mod run;
+mod serving;
+mod steps;
+
+pub use operations::run_op;
+pub use serving::{Served, run_calls};
+
+#[cfg(test)]
+mod tests;

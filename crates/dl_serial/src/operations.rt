@@ -1,0 +1,122 @@
+ghost use Rattle.std.specs.Prelude.{◌≡◌, ◌+◌, ◌<◌, ◌≤◌, ℤ, IfOk, OnOk, map};
+ghost use Rattle.std.specs.List.{zip};
+ghost use Rattle.std.specs.FinMap as finite;
+ghost use Rattle.dl_ir.specs.declared.modules.LocalDecl.{LocalDecl};
+ghost use Rattle.dl_ir.specs.CallForms.{AllFit, IsCallOf};
+ghost use Rattle.dl_ir.specs.Heap.{HasStart, blank};
+ghost use Rattle.dl_serial.specs.Arguments.{CanHold, AllHeld};
+ghost use Rattle.dl_serial.specs.Growth.{Grows};
+ghost use Rattle.dl_serial.specs.Rooms.{HasRoomFor, allocs_of};
+ghost use Rattle.dl_shape.specs.Operation.{argument_value as value_given, first_locals as locals_first, body_outcome, result_of, operated};
+
+use crate::frames::{Frame, Task};
+use crate::run::run_block;
+use dl_ir::{Answer, Call, End, Heap, LocalDecl, Module, Name, OpDecl, Ty, Value};
+use dl_shape::settle;
+use std::alloc::{AllocError, Global};
+
+/// Runs the operation of a call, with a ticket that names what it makes, and settles the heap. Where memory is
+/// wanting the heap is spent: it is of no use but to be dropped.
+pub fn run_op(
+    alloc: Global,
+    source: &Module,
+    heap: &mut Heap,
+    ticket: u64,
+    call: &Call,
+) -> Result<Answer, AllocError>
+    requires start { HasStart source.now }
+    requires of_module { IsCallOf source.now call.now }
+    requires ticket { 0 < ticket }
+    requires room { HasRoomFor source.now call.now heap.old }
+    ensures answer { IfOk result (λ answer. answer ≡ (operated source.now heap.old.objects ticket call.now).answer) }
+    ensures left { OnOk result (heap.new ≡ record heap.old { objects = (operated source.now heap.old.objects ticket call.now).objects }) }
+    ensures grows { OnOk result (Grows heap.old.objects heap.new.objects 0 (allocs_of source.now call.now)) }
+{
+    match source.ops.get(call.op as usize) {
+        Some(op) => run_body(alloc, source, heap, ticket, op, call.args.as_slice()),
+        None => unreachable!(),
+    }
+}
+
+// Runs the body of an operation, and settles the heap.
+fn run_body(
+    alloc: Global,
+    source: &Module,
+    heap: &mut Heap,
+    ticket: u64,
+    op: &OpDecl,
+    args: &[i64],
+) -> Result<Answer, AllocError>
+    requires start { HasStart source.now }
+    requires fits { AllFit source.now op.now.params args.now }
+    requires ticket { 0 < ticket }
+    requires room { finite.len heap.old.objects + op.now.allocs ≤ heap.old.room }
+    ensures answer { IfOk result (λ answer. answer ≡ (result_of (body_outcome source.now heap.old.objects ticket args.now op.now)).answer) }
+    ensures left { OnOk result (heap.new ≡ record heap.old { objects = (result_of (body_outcome source.now heap.old.objects ticket args.now op.now)).objects }) }
+    ensures grows { OnOk result (Grows heap.old.objects heap.new.objects 0 op.now.allocs) }
+{
+    let mut frame = Frame {
+        locals: first_locals(alloc, op, args)?,
+        turns: op.fuel,
+        made: 0,
+    };
+    let task = Task {
+        ticket,
+        allocs: op.allocs,
+    };
+    let end = run_block(source, task, &op.body, &mut frame, heap).unwrap_or(End::Ok(0));
+    let breach = settle(alloc, heap)?;
+    Ok(Answer { end, breach })
+}
+
+// The locals with which an operation begins: its arguments, then its vars.
+fn first_locals(alloc: Global, op: &OpDecl, args: &[i64]) -> Result<Vec<Value>, AllocError>
+    requires { AllHeld op.now.params args.now }
+    ensures { IfOk result (λ locals. locals.items ≡ locals_first op.now args.now) }
+{
+    let mut locals = arguments_given(alloc, op.params.as_slice(), args)?;
+    for var in op.vars.as_slice() {
+        locals.push(first_value(var.ty))?;
+    }
+    Ok(locals)
+}
+
+// The values of arguments for parameters.
+fn arguments_given(
+    alloc: Global,
+    params: &[LocalDecl],
+    args: &[i64],
+) -> Result<Vec<Value>, AllocError>
+    requires { AllHeld params.now args.now }
+    ensures { IfOk result (λ locals. locals.items ≡ map (λ (given : LocalDecl × ℤ). value_given given.0.ty given.1) (zip params.now args.now)) }
+{
+    let mut locals = Vec::new(alloc);
+    for (at, param) in params.iter().enumerate() {
+        locals.push(argument_value(param.ty, args[at]))?;
+    }
+    Ok(locals)
+}
+
+// The value of an argument for a parameter of a type.
+fn argument_value(ty: Ty, argument: i64) -> Value
+    requires { CanHold ty argument }
+    ensures { result ≡ value_given ty argument }
+{
+    match ty {
+        Ty::Int => Value::Int(argument),
+        Ty::Of(_) => Value::Ref(Some(Name {
+            ticket: 0,
+            index: argument as u32,
+        })),
+    }
+}
+
+// The value with which a var of a type begins.
+fn first_value(ty: Ty) -> Value
+    ensures { result ≡ blank ty }
+{
+    match ty {
+        Ty::Int => Value::Int(0),
+        Ty::Of(_) => Value::Ref(None),
+    }
+}

@@ -1,0 +1,125 @@
+ghost use Rattle.std.specs.Prelude.{◌≡◌, ◌<◌, ◌≤◌};
+ghost use Rattle.dl_ir.specs.Heap.{HasStart};
+ghost use Rattle.dl_ir.specs.Meaning.{does, block_does, loops};
+ghost use Rattle.dl_serial.specs.Frames.{state_of, context_of, HasRoom};
+ghost use Rattle.dl_serial.specs.Growth.{Grows};
+
+use crate::frames::{Frame, Task};
+use crate::numbers::{evaluate, target_at, test};
+use crate::steps::{
+    end_of_fault, run_copy, run_follow, run_link, run_load, run_new, run_null, run_set_int,
+    run_store,
+};
+use dl_ir::{Block, Cond, End, Heap, Module, Stmt};
+
+/// Runs a statement, and answers how the operation ended there, if it did.
+#[cycle(run)]
+pub fn run_stmt(
+    source: &Module,
+    task: Task,
+    s: &Stmt,
+    frame: &mut Frame,
+    heap: &mut Heap,
+) -> Option<End>
+    requires start { HasStart source.now }
+    requires ticket { 0 < task.ticket }
+    requires room { HasRoom task frame.old heap.old }
+    ensures gives { does (context_of source.now task) s.now (state_of frame.old heap.old) ≡ record { state = state_of frame.new heap.new; end = result } }
+    ensures turns { frame.new.turns ≤ frame.old.turns }
+    ensures room { HasRoom task frame.new heap.new }
+    ensures same_room { heap.new.room ≡ heap.old.room }
+    ensures grows { Grows heap.old.objects heap.new.objects frame.old.made frame.new.made }
+{
+    match s {
+        Stmt::SetInt { x, e } => run_set_int(*x, e, frame, heap),
+        Stmt::Load { x, p, f } => run_load(*x, *p, *f, frame, heap),
+        Stmt::Store { p, f, e } => run_store(*p, *f, e, frame, heap),
+        Stmt::Copy { p, q } => {
+            run_copy(*p, *q, frame, heap);
+            None
+        }
+        Stmt::Null { p } => {
+            run_null(*p, frame, heap);
+            None
+        }
+        Stmt::Follow { p, q, f } => run_follow(*p, *q, *f, frame, heap),
+        Stmt::New { p, kind } => run_new(source, task, *p, *kind, frame, heap),
+        Stmt::Link { q, f, p } => {
+            let target = target_at(&frame.locals, *p);
+            run_link(*q, *f, target, frame, heap)
+        }
+        Stmt::Cut { q, f } => run_link(*q, *f, None, frame, heap),
+        Stmt::If { c, yes, no } => match test(c, &frame.locals) {
+            Err(fault) => Some(end_of_fault(fault)),
+            Ok(true) => run_block(source, task, yes, frame, heap),
+            Ok(false) => run_block(source, task, no, frame, heap),
+        },
+        Stmt::While { c, body } => run_loop(source, task, c, body, frame, heap),
+        Stmt::Return { e } => match evaluate(e, &frame.locals) {
+            Ok(n) => Some(End::Ok(n)),
+            Err(fault) => Some(end_of_fault(fault)),
+        },
+    }
+}
+
+/// Runs the statements of a block one after another, up to the first end.
+#[cycle(run)]
+pub fn run_block(
+    source: &Module,
+    task: Task,
+    block: &Block,
+    frame: &mut Frame,
+    heap: &mut Heap,
+) -> Option<End>
+    requires start { HasStart source.now }
+    requires ticket { 0 < task.ticket }
+    requires room { HasRoom task frame.old heap.old }
+    ensures gives { block_does (context_of source.now task) block.now (state_of frame.old heap.old) ≡ record { state = state_of frame.new heap.new; end = result } }
+    ensures turns { frame.new.turns ≤ frame.old.turns }
+    ensures room { HasRoom task frame.new heap.new }
+    ensures same_room { heap.new.room ≡ heap.old.room }
+    ensures grows { Grows heap.old.objects heap.new.objects frame.old.made frame.new.made }
+{
+    for s in block.as_slice() {
+        let end = run_stmt(source, task, s, frame, heap);
+        if end.is_some() {
+            return end;
+        }
+    }
+    None
+}
+
+/// Runs a loop: each test of its condition takes a turn.
+#[cycle(run)]
+pub fn run_loop(
+    source: &Module,
+    task: Task,
+    c: &Cond,
+    body: &Block,
+    frame: &mut Frame,
+    heap: &mut Heap,
+) -> Option<End>
+    requires start { HasStart source.now }
+    requires ticket { 0 < task.ticket }
+    requires room { HasRoom task frame.old heap.old }
+    ensures gives { loops frame.old.turns c.now (block_does (context_of source.now task) body.now) (state_of frame.old heap.old) ≡ record { state = state_of frame.new heap.new; end = result } }
+    ensures turns { frame.new.turns ≤ frame.old.turns }
+    ensures room { HasRoom task frame.new heap.new }
+    ensures same_room { heap.new.room ≡ heap.old.room }
+    ensures grows { Grows heap.old.objects heap.new.objects frame.old.made frame.new.made }
+{
+    while frame.turns > 0 {
+        frame.turns -= 1;
+        match test(c, &frame.locals) {
+            Err(fault) => return Some(end_of_fault(fault)),
+            Ok(false) => return None,
+            Ok(true) => {
+                let end = run_block(source, task, body, frame, heap);
+                if end.is_some() {
+                    return end;
+                }
+            }
+        }
+    }
+    Some(End::Fuel)
+}

@@ -1,0 +1,232 @@
+ghost use Rattle.std.specs.Prelude.{◌≡◌, ◌<◌, ◌≤◌, ◌+◌, None, if◌then◌else◌, is_none, slice_get, slice_set, option_and_then};
+ghost use Rattle.std.specs.FinMap as finite;
+ghost use Rattle.dl_ir.specs.Heap.{HasStart};
+ghost use Rattle.dl_ir.specs.Meaning.{Context, State, Outcome, fault_end, object_of, step, is_sealed, unless_sealed, links_to};
+ghost use Rattle.dl_ir.specs.Evaluation.{number_of, target_of};
+ghost use Rattle.dl_serial.specs.Frames.{state_of, context_of, HasRoom};
+ghost use Rattle.dl_serial.specs.Growth.{Grows};
+ghost use Rattle.dl_ir.specs.declared.statements.Stmt.{Stmt-F};
+ghost use Rattle.dl_ir.specs.declared.objects.Obj.{Obj};
+
+use crate::frames::{Frame, Task};
+use crate::numbers::{evaluate, target_at};
+use dl_ir::{End, Expr, Fault, Fields, Heap, Module, Name, Obj, Value};
+
+/// The end that a fault in an expression is.
+pub fn end_of_fault(fault: Fault) -> End
+    ensures { result ≡ fault_end fault }
+{
+    match fault {
+        Fault::Overflow => End::Overflow,
+        Fault::DivZero => End::DivZero,
+    }
+}
+
+/// What a field of an object holds.
+pub fn field_of(heap: &Heap, name: Name, field: u32) -> Option<Value>
+    ensures { result ≡ option_and_then (λ (object : Obj). slice_get object.fields field) (finite.get heap.now.objects name) }
+{
+    match heap.get(name) {
+        Some(object) => object.fields.get(field as usize),
+        None => None,
+    }
+}
+
+fn is_sealed_at(heap: &Heap, name: Name) -> bool
+    ensures { result ≡ is_sealed (finite.get heap.now.objects name) }
+{
+    match heap.get(name) {
+        Some(object) => object.sealed,
+        None => false,
+    }
+}
+
+fn set_local(frame: &mut Frame, x: u32, value: Value)
+    ensures locals { frame.new.locals.items ≡ slice_set frame.old.locals.items x value }
+    ensures turns { frame.new.turns ≡ frame.old.turns }
+    ensures made { frame.new.made ≡ frame.old.made }
+{
+    if (x as usize) < frame.locals.len() {
+        frame.locals[x as usize] = value;
+    }
+}
+
+/// `x = e;`
+pub fn run_set_int(x: u32, e: &Expr, frame: &mut Frame, heap: &Heap) -> Option<End>
+    ensures gives { (cx : Context) → step cx (Stmt-F.SetInt x e.now) (state_of frame.old heap.now) ≡ record { state = state_of frame.new heap.now; end = result } }
+    ensures turns { frame.new.turns ≡ frame.old.turns }
+    ensures made { frame.new.made ≡ frame.old.made }
+{
+    match evaluate(e, &frame.locals) {
+        Ok(n) => {
+            set_local(frame, x, Value::Int(n));
+            None
+        }
+        Err(fault) => Some(end_of_fault(fault)),
+    }
+}
+
+/// `x = p.f;`, where the field holds a number
+pub fn run_load(x: u32, p: u32, f: u32, frame: &mut Frame, heap: &Heap) -> Option<End>
+    ensures gives { (cx : Context) → step cx (Stmt-F.Load x p f) (state_of frame.old heap.now) ≡ record { state = state_of frame.new heap.now; end = result } }
+    ensures turns { frame.new.turns ≡ frame.old.turns }
+    ensures made { frame.new.made ≡ frame.old.made }
+{
+    match target_at(&frame.locals, p) {
+        None => Some(End::Null),
+        Some(name) => {
+            let n = number_held(field_of(heap, name, f));
+            set_local(frame, x, Value::Int(n));
+            None
+        }
+    }
+}
+
+fn number_held(held: Option<Value>) -> i64
+    ensures { result ≡ number_of held }
+{
+    match held {
+        Some(Value::Int(n)) => n,
+        _ => 0,
+    }
+}
+
+/// `p.f = e;`
+pub fn run_store(p: u32, f: u32, e: &Expr, frame: &Frame, heap: &mut Heap) -> Option<End>
+    ensures gives { (cx : Context) → step cx (Stmt-F.Store p f e.now) (state_of frame.now heap.old) ≡ record { state = state_of frame.now heap.new; end = result } }
+    ensures len { finite.len heap.new.objects ≡ finite.len heap.old.objects }
+    ensures grows { Grows heap.old.objects heap.new.objects 0 0 }
+    ensures room { heap.new.room ≡ heap.old.room }
+{
+    match evaluate(e, &frame.locals) {
+        Err(fault) => Some(end_of_fault(fault)),
+        Ok(n) => match target_at(&frame.locals, p) {
+            None => Some(End::Null),
+            Some(name) => {
+                heap.set_field(name, f as usize, Value::Int(n));
+                None
+            }
+        },
+    }
+}
+
+/// `p = q;`
+pub fn run_copy(p: u32, q: u32, frame: &mut Frame, heap: &Heap)
+    ensures gives { (cx : Context) → step cx (Stmt-F.Copy p q) (state_of frame.old heap.now) ≡ record { state = state_of frame.new heap.now; end = None } }
+    ensures turns { frame.new.turns ≡ frame.old.turns }
+    ensures made { frame.new.made ≡ frame.old.made }
+{
+    let target = target_at(&frame.locals, q);
+    set_local(frame, p, Value::Ref(target));
+}
+
+/// `p = null;`
+pub fn run_null(p: u32, frame: &mut Frame, heap: &Heap)
+    ensures gives { (cx : Context) → step cx (Stmt-F.Null p) (state_of frame.old heap.now) ≡ record { state = state_of frame.new heap.now; end = None } }
+    ensures turns { frame.new.turns ≡ frame.old.turns }
+    ensures made { frame.new.made ≡ frame.old.made }
+{
+    set_local(frame, p, Value::Ref(None));
+}
+
+/// `p = q.f;`, where the field holds a reference
+pub fn run_follow(p: u32, q: u32, f: u32, frame: &mut Frame, heap: &Heap) -> Option<End>
+    ensures gives { (cx : Context) → step cx (Stmt-F.Follow p q f) (state_of frame.old heap.now) ≡ record { state = state_of frame.new heap.now; end = result } }
+    ensures turns { frame.new.turns ≡ frame.old.turns }
+    ensures made { frame.new.made ≡ frame.old.made }
+{
+    match target_at(&frame.locals, q) {
+        None => Some(End::Null),
+        Some(name) => {
+            let target = target_held(field_of(heap, name, f));
+            let sealed = sealed_end(heap, target);
+            if sealed.is_none() {
+                set_local(frame, p, Value::Ref(target));
+            }
+            sealed
+        }
+    }
+}
+
+/// `p = new K;`
+pub fn run_new(
+    source: &Module,
+    task: Task,
+    p: u32,
+    kind: u32,
+    frame: &mut Frame,
+    heap: &mut Heap,
+) -> Option<End>
+    requires start { HasStart source.now }
+    requires ticket { 0 < task.ticket }
+    requires room { HasRoom task frame.old heap.old }
+    ensures gives { step (context_of source.now task) (Stmt-F.New p kind) (state_of frame.old heap.old) ≡ record { state = state_of frame.new heap.new; end = result } }
+    ensures turns { frame.new.turns ≡ frame.old.turns }
+    ensures room { HasRoom task frame.new heap.new }
+    ensures same_room { heap.new.room ≡ heap.old.room }
+    ensures grows { Grows heap.old.objects heap.new.objects frame.old.made frame.new.made }
+{
+    if frame.made >= task.allocs {
+        return Some(End::Quota);
+    }
+    frame.made += 1;
+    let name = Name {
+        ticket: task.ticket,
+        index: frame.made,
+    };
+    heap.put(name, new_object(source, kind));
+    set_local(frame, p, Value::Ref(Some(name)));
+    None
+}
+
+/// `q.f = p;`, where the field holds a reference, and `q.f = null;`, by the target that the field gets
+pub fn run_link(q: u32, f: u32, target: Option<Name>, frame: &Frame, heap: &mut Heap) -> Option<End>
+    ensures gives { links_to q f target (state_of frame.now heap.old) ≡ record { state = state_of frame.now heap.new; end = result } }
+    ensures len { finite.len heap.new.objects ≡ finite.len heap.old.objects }
+    ensures grows { Grows heap.old.objects heap.new.objects 0 0 }
+    ensures room { heap.new.room ≡ heap.old.room }
+{
+    match target_at(&frame.locals, q) {
+        None => Some(End::Null),
+        Some(name) => {
+            let sealed = sealed_end(heap, target_held(field_of(heap, name, f)));
+            if sealed.is_none() {
+                heap.set_field(name, f as usize, Value::Ref(target));
+            }
+            sealed
+        }
+    }
+}
+
+// The end of following or overwriting a reference to a sealed object, if it refers to one.
+fn sealed_end(heap: &Heap, target: Option<Name>) -> Option<End>
+    ensures { (s : State) (next : Outcome) → s.objects ≡ heap.now.objects → unless_sealed target s next ≡ (if is_none result then next else record { state = s; end = result }) }
+{
+    match target {
+        Some(name) if is_sealed_at(heap, name) => Some(End::Sealed(name)),
+        _ => None,
+    }
+}
+
+fn target_held(held: Option<Value>) -> Option<Name>
+    ensures { result ≡ target_of held }
+{
+    match held {
+        Some(Value::Ref(target)) => target,
+        _ => None,
+    }
+}
+
+fn new_object(source: &Module, kind: u32) -> Obj
+    requires { HasStart source.now }
+    ensures { result ≡ object_of kind (slice_get source.now.kinds kind) }
+{
+    match source.kinds.get(kind as usize) {
+        Some(declared) => Obj::blank(kind, declared),
+        None => Obj {
+            kind,
+            sealed: false,
+            fields: Fields::new(),
+        },
+    }
+}

@@ -1,0 +1,6 @@
+mod Forest
+mod Looks
+mod Marking
+mod Members
+mod Order
+mod Totals

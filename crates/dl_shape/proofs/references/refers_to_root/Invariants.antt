@@ -1,0 +1,7 @@
+use Rattle.std.proofs.Common.{◌≡◌, take, false}
+use Rattle.std.specs.List.{list_any}
+use Rattle.dl_shape.specs.Forests.{names_root}
+use Rattle.dl_shape.proofs.references.refers_to_root.Given as goal
+
+abbrev pub invariant-loop-value : goal.invariant-loop-value
+invariant-loop-value l = list_any names_root (take l.value-index l.fields) ≡ false

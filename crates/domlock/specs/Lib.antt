@@ -1,0 +1,7 @@
+pub mod Words
+pub mod Reading
+pub mod Status
+pub mod Texts
+pub mod Causes
+pub mod Loading
+pub mod Promise

@@ -1,0 +1,61 @@
+use Rattle.std.specs.Prelude.{◌≡◌, ℕ, List, [], Option, Some, None}
+use Rattle.dl_io.specs.Source.{Source}
+use Rattle.dl_io.specs.Taken.{Taken, Took}
+use Rattle.dl_ir.specs.declared.modules.Module.{Module}
+use Rattle.dl_ir.specs.declared.calls.Call.{Call}
+use Rattle.dl_ir.specs.declared.answers.Entry.{Entry}
+use Rattle.dl_ir.specs.declared.answers.Refusal.{Refusal}
+use Rattle.dl_ir.specs.Cover.{Covers}
+use Rattle.dl_ir.specs.Heap.{start_objects}
+use Rattle.dl_shape.specs.Replay.{IsLegal, replayed}
+use Rattle.dl_shape.specs.Pool.{IsLawfulPool}
+use Rattle.dl_history.specs.Report.{report}
+use Rattle.domlock.specs.declared.status.Status.{Status}
+use Rattle.domlock.specs.declared.status.Status.TheVariants as statuses
+use Rattle.domlock.specs.Causes.{Refuses, Cut}
+use Rattle.domlock.specs.Reading.{IsWithin}
+use Rattle.domlock.specs.Texts.{Spells}
+use Rattle.domlock.specs.Words.{Text, Task, task_of_words}
+
+-- what running the calls of a module came to, from its start heap and with so many places: each operation stands once, in
+-- the history or among the refusals; every answer is that of the serial meaning; and the pool is lawful
+pub record IsRun (source : Module) (all : List (List Call)) (places : ℕ) (history : List Entry) (refusals : List Refusal) : Type 0 where
+  pub covers : Covers all history refusals
+  pub legal : IsLegal source all (start_objects source) history
+  pub lawful : IsLawfulPool places source all (start_objects source) history refusals
+
+-- the report of a run, with the heap that its history leads to
+abbrev pub report_of : Module → List (List Call) → List Entry → List Refusal → Text
+report_of source all history refusals = report source all history refusals (replayed source all (start_objects source) history)
+
+-- the words are a command whose files spell a module and its calls; the history and the refusals are a run of these, and
+-- the text is its report
+pub record Ran (words : List Text) (files : Source) (history : List Entry) (refusals : List Refusal) (text : Text) : Type 0 where
+  pub task : Task
+  pub is_task : task_of_words words ≡ Some task
+  pub source : Module
+  pub all : List (List Call)
+  pub spells : Spells files task source all
+  pub run : IsRun source all 4096 history refusals
+  pub is_report : text ≡ report_of source all history refusals
+
+-- what the sink took of a text
+abbrev pub Prints : Status → Text → Taken → Taken → Type 0
+Prints statuses.Done text old new = Took old.written new.written text
+Prints statuses.WriteFault text old new = Cut text old new
+Prints statuses.Usage text old new = ⊥
+Prints (statuses.ReadFault file) text old new = ⊥
+Prints (statuses.TooLong file) text old new = ⊥
+Prints (statuses.ModuleFault line why) text old new = ⊥
+Prints (statuses.OpsFault file line why) text old new = ⊥
+Prints statuses.Memory text old new = ⊥
+
+-- how a call ends: the words are no command, or the files are refused, or memory runs out, or the report is written as far
+-- as the sink takes it
+pub data Ends (words : List Text) (old new : Source) (taken_before taken_after : Taken) (status : Status) (history : List Entry) (refusals : List Refusal) : Type 0 where
+  usage : status ≡ statuses.Usage → task_of_words words ≡ None → new ≡ old → taken_after ≡ taken_before → history ≡ [] → refusals ≡ []
+      → Ends words old new taken_before taken_after status history refusals
+  refused : (task : Task) → task_of_words words ≡ Some task → Refuses task old new status → taken_after ≡ taken_before → history ≡ [] → refusals ≡ []
+      → Ends words old new taken_before taken_after status history refusals
+  ran : (text : Text) → Ran words old history refusals text → IsWithin new → Prints status text taken_before taken_after
+      → Ends words old new taken_before taken_after status history refusals
