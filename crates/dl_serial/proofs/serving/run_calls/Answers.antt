@@ -2,6 +2,8 @@ use Rattle.std.proofs.Common.{◌≡◌, ◌∷◌, [], arith, length, refl, ap,
 use Rattle.std.proofs.lemmas.Option.{slice_get_read}
 use Rattle.dl_shape.specs.Replay.{IsLegalFrom}
 use Rattle.dl_serial.proofs.Covering.{serves_covers}
+use Rattle.dl_serial.proofs.Lawful.{numbered_range}
+use Rattle.dl_serial.proofs.Pools.{entry_pool}
 use Rattle.dl_serial.proofs.Laws.{serves_replayed, serves_legal}
 use Rattle.dl_serial.proofs.Rising.{serves_rise}
 use Rattle.dl_serial.specs.Serving.{Serves, begins}
