@@ -5,6 +5,7 @@ mod Laws
 mod Levels
 mod Lines
 mod Pools
+mod Returns
 mod Rising
 mod RootNumbers
 mod Sizes
