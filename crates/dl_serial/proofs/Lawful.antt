@@ -31,7 +31,6 @@ later_count w from (m ∷ rest) below numbered =
 less_of : (a b : ℕ) → a ≤ b → (a ≡ b → ⊥) → a + 1 ≤ b
 less_of a b low apart = omega arith
 
-
 -- each version of the range comes once
 pub numbered_once : (w from : ℕ) (moves : List Move) → IsNumbered from moves → from ≤ w → w < from + length moves → count_by (λ (x : Move). x.version == w) moves ≡ 1
 numbered_once w from [] numbered low high = absurd (omega arith)

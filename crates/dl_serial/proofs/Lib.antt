@@ -1,6 +1,7 @@
 mod Counts
 mod Covering
 mod Lawful
+mod Lawfulness
 mod Laws
 mod Levels
 mod Lines

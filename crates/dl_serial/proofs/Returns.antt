@@ -26,13 +26,13 @@ use Rattle.dl_serial.proofs.Rising.{allocs_same}
 -- returns that fit go on with one entry more
 returns_push : (source : Module) (files : List (List Call)) {heap : Objects} {es : List Entry} (e : Entry) → ReturnsFit source files heap es
     → allocs_at source files e.caller e.index + hidden_count (replayed source files heap es)
-      ≡ e.returned + hidden_count (after_call source (replayed source files heap es) e.ticket (call_at files e.caller e.index))
+    ≡ e.returned + hidden_count (after_call source (replayed source files heap es) e.ticket (call_at files e.caller e.index))
     → ReturnsFit source files heap (es ++ e ∷ [])
 returns_push source files e ends fit = goes_on fit ends
 returns_push source files e (goes_on first rest) fit = goes_on first (returns_push source files e rest fit)
 
 -- the moves with those of one entry more
-moves_push : (source : Module) (calls : List Call) (n : ℕ) (es : List Entry) (e : Entry) (call : Call) → slice_get calls n ≡ Some call → e.caller ≡ 1 → e.index ≡ n + 1
+pub moves_push : (source : Module) (calls : List Call) (n : ℕ) (es : List Entry) (e : Entry) (call : Call) → slice_get calls n ≡ Some call → e.caller ≡ 1 → e.index ≡ n + 1
     → moves_of source (calls ∷ []) (es ++ e ∷ []) ≡ moves_of source (calls ∷ []) es ++ (reservation_of e (allocs_of source call) ++ return_of e)
 moves_push source calls n es e call there is_one is_next =
     flat_map-append (moves_of_entry source (calls ∷ [])) es (e ∷ [])
@@ -51,8 +51,8 @@ module _ (source : Module) (places first : ℕ) (start : Objects) (calls : List 
       let allocs = allocs_same source calls n e.caller e.index call there is.caller is.index in
       let same : replayed source (calls ∷ []) start es ≡ h = serves_replayed source places first start calls before in
       let now : after_call source (replayed source (calls ∷ []) start es) e.ticket (call_at (calls ∷ []) e.caller e.index) ≡ (operated source h (first + length es) call).objects
-            = ap (after_call source (replayed source (calls ∷ []) start es) e.ticket) (call_of_one calls n e.caller e.index call there is.caller is.index)
-            ∙ ap (λ (g : Objects). (operated source g e.ticket call).objects) same ∙ ap (λ (t : ℕ). (operated source h t call).objects) is.ticket in
+      = ap (after_call source (replayed source (calls ∷ []) start es) e.ticket) (call_of_one calls n e.caller e.index call there is.caller is.index)
+      ∙ ap (λ (g : Objects). (operated source g e.ticket call).objects) same ∙ ap (λ (t : ℕ). (operated source h t call).objects) is.ticket in
       let before_it : hidden_count (replayed source (calls ∷ []) start es) ≡ hidden_count h = ap hidden_count same in
       let after_it = ap hidden_count now in
       returns_push source (calls ∷ []) e (serves_returns before) (omega (arith, allocs, before_it, after_it, is.returned))
