@@ -1,6 +1,6 @@
 -- the pool of served calls is lawful
-use Rattle.std.proofs.Common.{◌≡◌, ℕ, zero, suc, ◌+◌, ◌-◌, ◌<◌, ◌≤◌, List, [], ◌∷◌, ◌++◌, length, take, get_or, map, refl, sym, ap, subst, ◌∙◌, Some, arith, length-append, ℤ, pos, ◌+ℤ◌, ◌-ℤ◌, ◌≤ℤ◌, ◌⊎◌, inl, inr}
-use Rattle.std.specs.Prelude.{slice_get, All, AllPairs, Contains}
+use Rattle.std.proofs.Common.{◌≡◌, ℕ, zero, suc, ◌+◌, ◌-◌, ◌<◌, ◌≤◌, List, [], ◌∷◌, ◌++◌, length, take, get_or, map, refl, sym, ap, subst, ◌∙◌, arith, ℤ, pos, ◌-ℤ◌, ◌⊎◌, inl, inr}
+use Rattle.std.specs.Prelude.{All, AllPairs, Contains}
 use Rattle.std.specs.List.Sorted.{IsStrictlyIncreasing}
 use Rattle.std.proofs.lemmas.Int.{ints}
 use Rattle.std.proofs.lemmas.List.{take-append-le, take_all}
@@ -12,13 +12,13 @@ use Rattle.dl_ir.specs.declared.calls.Call.{Call}
 use Rattle.dl_ir.specs.declared.modules.Module.{Module}
 use Rattle.dl_ir.specs.declared.moves.Move.{Move}
 use Rattle.dl_ir.specs.Heap.{Objects, hidden_count}
-use Rattle.dl_shape.specs.Pool.{AreBelow, IsLawfulPool, IsDue, allocs_at, free_at, moves_of, moves_of_entry, versions_of, reservation_of, return_of}
+use Rattle.dl_shape.specs.Pool.{AreBelow, IsLawfulPool, allocs_at, free_at, moves_of, versions_of, reservation_of, return_of}
 use Rattle.dl_serial.specs.Rooms.{allocs_of}
-use Rattle.dl_serial.specs.Serving.{Serves, begins, carries_out, refuses, IsEntryOf, IsRefusalOf, move_count}
+use Rattle.dl_serial.specs.Serving.{Serves, begins, carries_out, refuses, move_count}
 use Rattle.dl_serial.proofs.Covering.{serves_indexes, serves_in_order}
-use Rattle.dl_serial.proofs.Lawful.{level, Stays, stays_take, numbered_range, numbered_once, up_to}
-use Rattle.dl_serial.proofs.Returns.{IsLevel, moves_push, serves_returns, serves_level}
-use Rattle.dl_serial.proofs.Rising.{IsNumbered, AllMoves, EntryMoves, entry_moves, allocs_same, serves_numbered}
+use Rattle.dl_serial.proofs.Lawful.{level, stays_take, numbered_range, numbered_once, up_to}
+use Rattle.dl_serial.proofs.Returns.{moves_push, serves_returns, serves_level}
+use Rattle.dl_serial.proofs.Rising.{IsNumbered, entry_moves, allocs_same, serves_numbered}
 
 -- the versions of moves that are numbered
 version_at : (from : ℕ) (ms : List Move) → IsNumbered from ms → (k d : ℕ) → k < length (map (λ (m : Move). m.version) ms) → get_or (map (λ (m : Move). m.version) ms) k d ≡ from + k

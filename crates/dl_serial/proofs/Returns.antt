@@ -1,7 +1,6 @@
 -- what served calls return, and the free places that their moves leave
-use Rattle.std.proofs.Common.{◌≡◌, ℕ, ◌+◌, ◌<◌, ◌≤◌, List, [], ◌∷◌, ◌++◌, length, refl, sym, ap, subst, ◌∙◌, Some, arith, ℤ, pos, ◌+ℤ◌, ◌-ℤ◌, ◌≤ℤ◌, add-one}
+use Rattle.std.proofs.Common.{◌≡◌, ℕ, ◌+◌, ◌≤◌, List, [], ◌∷◌, ◌++◌, length, refl, sym, ap, subst, ◌∙◌, Some, arith, ℤ, pos, ◌+ℤ◌, ◌-ℤ◌}
 use Rattle.std.specs.Prelude.{slice_get}
-use Rattle.std.specs.List.{flat_map}
 use Rattle.std.proofs.lemmas.Grind.{flat_map-append}
 use Rattle.std.proofs.lemmas.Int.{ints}
 use Rattle.std.proofs.lemmas.List.{append-nil}
@@ -17,7 +16,7 @@ use Rattle.dl_shape.specs.Operation.{operated}
 use Rattle.dl_shape.specs.Pool.{ReturnsFit, ends, goes_on, allocs_at, moves_of, moves_of_entry, reservation_of, return_of}
 use Rattle.dl_shape.specs.Replay.{after_call, replayed}
 use Rattle.dl_serial.specs.Rooms.{allocs_of}
-use Rattle.dl_serial.specs.Serving.{Serves, begins, carries_out, refuses, IsEntryOf}
+use Rattle.dl_serial.specs.Serving.{Serves, begins, carries_out, refuses}
 use Rattle.dl_serial.proofs.Laws.{call_of_one, serves_replayed}
 use Rattle.dl_serial.proofs.Lawful.{level, Stays, stays_append}
 use Rattle.dl_serial.proofs.Pools.{entry_pool}
