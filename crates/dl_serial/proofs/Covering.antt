@@ -75,7 +75,7 @@ module _ (source : Module) (places first : ℕ) (start : Objects) (calls : List 
       omega (arith, old, more, same, taken_on)
 
   -- no index is above the number of calls so far
-  serves_indexes : {n version : ℕ} {es : List Entry} {rs : List Refusal} {heap : Objects} → Serves source places first start calls n es rs heap version
+  pub serves_indexes : {n version : ℕ} {es : List Entry} {rs : List Refusal} {heap : Objects} → Serves source places first start calls n es rs heap version
       → All (λ (e : Entry). e.index ≤ n) es
   serves_indexes begins = λ k d within. absurd (omega arith)
   serves_indexes (carries_out {count = n} {entries = es} call e before there fits is) =

@@ -13,7 +13,7 @@ use Rattle.dl_shape.specs.Replay.{after_call, replayed, IsLegalFrom, ends, goes_
 use Rattle.dl_serial.specs.Serving.{Serves, begins, carries_out, refuses}
 
 -- the call of caller 1 with this index
-call_of_one : (calls : List Call) (n caller index : ℕ) (call : Call) → slice_get calls n ≡ Some call → caller ≡ 1 → index ≡ n + 1 → call_at (calls ∷ []) caller index ≡ Some call
+pub call_of_one : (calls : List Call) (n caller index : ℕ) (call : Call) → slice_get calls n ≡ Some call → caller ≡ 1 → index ≡ n + 1 → call_at (calls ∷ []) caller index ≡ Some call
 call_of_one calls n caller index call there is_one is_next = rw (is_one, is_next, add-one n) there
 
 -- a replay of one entry more

@@ -1,8 +1,12 @@
 mod Counts
 mod Covering
+mod Lawful
+mod Lawfulness
 mod Laws
 mod Levels
 mod Lines
+mod Pools
+mod Returns
 mod Rising
 mod RootNumbers
 mod Sizes

@@ -1,7 +1,6 @@
-use Rattle.std.proofs.Common.{◌≡◌, ℕ, ◌+◌, ◌<◌, ◌≤◌, ◌==◌, Bool, true, false, List, [], ◌∷◌, ◌++◌, length, filter, map, Some, slice_get, refl, sym, ◌∙◌, ap, subst, arith, append_assoc, length-append, zero, suc, nat_lt, add-one}
+use Rattle.std.proofs.Common.{◌≡◌, ℕ, ◌+◌, ◌<◌, ◌==◌, Bool, true, false, List, [], ◌∷◌, ◌++◌, length, filter, Some, slice_get, refl, sym, ◌∙◌, ap, subst, arith, append_assoc, length-append, zero, suc, nat_lt, add-one}
 use Rattle.std.proofs.lemmas.List.{append-nil}
 use Rattle.std.proofs.lemmas.Bool.Decides.{nat_tests}
-use Rattle.std.specs.List.{flat_map}
 use Rattle.std.proofs.lemmas.Grind.{flat_map-append}
 use Rattle.dl_ir.specs.declared.answers.Entry.{Entry}
 use Rattle.dl_ir.specs.declared.answers.Refusal.{Refusal}
@@ -88,7 +87,7 @@ numbered_append version (x ∷ xs) ys h g = (h.0, numbered_append (version + 1) 
 
 -- what an entry says of one of its moves: as many as that move is, and numbered
 record OneMove (version places : ℕ) (moves : List Move) : Type 0 where
-  numbered : IsNumbered (version + 1) moves
+  pub numbered : IsNumbered (version + 1) moves
   count : length moves ≡ move_count places
 
 suc_positive : (n : ℕ) → nat_lt 0 (suc n) ≡ true
@@ -113,16 +112,16 @@ returned entry (suc places) version same is =
     rw (same, suc_positive places) (record { numbered = (at, tt); count = sym (one_move places) })
 
 -- what an entry's call may make is what its operation may make
-allocs_same : (source : Module) (calls : List Call) (n caller index : ℕ) (call : Call) → slice_get calls n ≡ Some call → caller ≡ 1 → index ≡ n + 1
+pub allocs_same : (source : Module) (calls : List Call) (n caller index : ℕ) (call : Call) → slice_get calls n ≡ Some call → caller ≡ 1 → index ≡ n + 1
     → allocs_at source (calls ∷ []) caller index ≡ allocs_of source call
 allocs_same source calls n caller index call there is_one is_next = rw (is_one, is_next, add-one n, there) refl
 
 -- the moves of one entry: as many as its two counts say, and numbered
-record EntryMoves (version next : ℕ) (moves : List Move) : Type 0 where
-  numbered : IsNumbered (version + 1) moves
-  count : version + length moves ≡ next
+pub record EntryMoves (version next : ℕ) (moves : List Move) : Type 0 where
+  pub numbered : IsNumbered (version + 1) moves
+  pub count : version + length moves ≡ next
 
-entry_moves : (source : Module) (heap : Objects) (call : Call) (drawn number version : ℕ) (entry : Entry) → IsEntryOf source heap call drawn number version entry
+pub entry_moves : (source : Module) (heap : Objects) (call : Call) (drawn number version : ℕ) (entry : Entry) → IsEntryOf source heap call drawn number version entry
     → EntryMoves version (version + move_count (allocs_of source call) + move_count entry.returned) (reservation_of entry (allocs_of source call) ++ return_of entry)
 entry_moves source heap call drawn number version entry is =
     let first = reserved entry (allocs_of source call) version is.reserved_at in
@@ -133,12 +132,12 @@ entry_moves source heap call drawn number version entry is =
     }
 
 -- the moves of the entries: numbered from 1 on, up to the version
-record AllMoves (version : ℕ) (moves : List Move) : Type 0 where
-  numbered : IsNumbered 1 moves
-  count : length moves ≡ version
+pub record AllMoves (version : ℕ) (moves : List Move) : Type 0 where
+  pub numbered : IsNumbered 1 moves
+  pub count : length moves ≡ version
 
 module _ (source : Module) (places first : ℕ) (start : Objects) (calls : List Call) where
-  serves_numbered : {n version : ℕ} {es : List Entry} {rs : List Refusal} {heap : Objects} → Serves source places first start calls n es rs heap version
+  pub serves_numbered : {n version : ℕ} {es : List Entry} {rs : List Refusal} {heap : Objects} → Serves source places first start calls n es rs heap version
       → AllMoves version (moves_of source (calls ∷ []) es)
   serves_numbered begins = record { numbered = tt; count = refl }
   serves_numbered (carries_out {count = n} {version = v} {entries = es} {heap = h} call e before there fits is) =

@@ -4,7 +4,7 @@ ghost use Rattle.dl_ir.specs.Cover.{Covers};
 ghost use Rattle.dl_ir.specs.Heap.{HasStart, Objects, hidden_count};
 ghost use Rattle.dl_ir.specs.declared.calls.Call.{Call as OneCall};
 ghost use Rattle.dl_shape.specs.Operation.{operated};
-ghost use Rattle.dl_shape.specs.Pool.{moves_of, in_rising_versions};
+ghost use Rattle.dl_shape.specs.Pool.{moves_of, in_rising_versions, IsLawfulPool};
 ghost use Rattle.dl_shape.specs.Replay.{replayed, greatest_ticket, IsLegal};
 ghost use Rattle.dl_serial.specs.Growth.{Grows};
 ghost use Rattle.dl_serial.specs.Progress.{HasPlaces, IsReady, IsAfter, Passes};
@@ -57,6 +57,7 @@ pub fn run_calls(
     ensures covers { IfOk result (λ served. Covers (calls.now ∷ []) served.entries served.refusals) }
     ensures serves { IfOk result (λ served. (version : ℕ) × Serves source.now places first heap.old.objects calls.now (length calls.now) served.entries served.refusals heap.new.objects version) }
     ensures rising { IfOk result (λ served. in_rising_versions (moves_of source.now (calls.now ∷ []) served.entries) ≡ moves_of source.now (calls.now ∷ []) served.entries) }
+    ensures pool { IfOk result (λ served. IsLawfulPool places source.now (calls.now ∷ []) heap.old.objects served.entries served.refusals) }
     ensures free { IfOk result (λ served. served.free + hidden_count heap.new.objects ≡ places) }
 {
     let hidden = hidden_objects(heap);

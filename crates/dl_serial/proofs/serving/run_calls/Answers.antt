@@ -2,6 +2,7 @@ use Rattle.std.proofs.Common.{◌≡◌, ◌∷◌, [], arith, length, refl, ap,
 use Rattle.std.proofs.lemmas.Option.{slice_get_read}
 use Rattle.dl_shape.specs.Replay.{IsLegalFrom}
 use Rattle.dl_serial.proofs.Covering.{serves_covers}
+use Rattle.dl_serial.proofs.Lawfulness.{serves_lawful}
 use Rattle.dl_serial.proofs.Laws.{serves_replayed, serves_legal}
 use Rattle.dl_serial.proofs.Rising.{serves_rise}
 use Rattle.dl_serial.specs.Serving.{Serves, begins}
@@ -47,3 +48,6 @@ returns-clause-covers c =
 
 pub returns-clause-rising : goal.returns-clause-rising
 returns-clause-rising c = serves_rise _ _ _ _ _ c.loop-at.invariant.after.serves
+
+pub returns-clause-pool : goal.returns-clause-pool
+returns-clause-pool c = serves_lawful _ _ _ _ _ c.requires.hidden c.loop-at.invariant.after.serves
