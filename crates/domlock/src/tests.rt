@@ -1,3 +1,5 @@
+ghost use Rattle.std.specs.Prelude.{◌≤◌};
+
 use crate::status::{Status, exit_code, status_line};
 use crate::top::{Outcome, domlock_still};
 use crate::words::Words;
@@ -162,9 +164,15 @@ fn each_refusal_has_its_line_and_code(rt: HostRuntime) -> Result<(), Fail> {
 }
 
 #[test]
-fn a_module_one_byte_too_long(rt: HostRuntime) -> Result<(), Fail> {
-    let module = vec![in rt.alloc(); b' '; 262_145]?;
+fn a_module_at_its_limit_and_one_byte_longer(rt: HostRuntime) -> Result<(), Fail> {
+    let mut module = Vec::from_slice(rt.alloc(), COUNTER)?;
+    for _ in COUNTER.len()..262_144 {
+        module.push(b' ')?;
+    }
     let mut sink = MemSink::new(rt.alloc(), 1000, &[], 1000)?;
+    let outcome = call(rt.alloc(), "serial m o", &module, b"", &mut sink)?;
+    assert_eq!(rt; outcome.status, Status::Done);
+    module.push(b' ')?;
     let outcome = call(rt.alloc(), "serial m o", &module, b"", &mut sink)?;
     assert_eq!(rt; outcome.status, Status::TooLong { file: 0 });
     assert_eq!(rt; exit_code(&outcome.status), 3);
@@ -188,15 +196,26 @@ fn a_sink_that_fails_keeps_the_history(rt: HostRuntime) -> Result<(), Fail> {
     Ok(())
 }
 
-#[test]
-fn a_read_that_fails_is_of_its_file(rt: HostRuntime) -> Result<(), Fail> {
-    let words = words_of(rt.alloc(), "serial m o")?;
-    let mut files = MemFiles::new(rt.alloc(), 1000, &[5])?;
+// What the call on a counter module and one operation answers where the call of files with this number fails.
+fn status_at_fault(alloc: Global, piece: usize, fails: &[u64]) -> Result<Status, Fail>
+    requires { 1 ≤ piece }
+{
+    let words = words_of(alloc, "serial m o")?;
+    let mut files = MemFiles::new(alloc, piece, fails)?;
     files.add("m", COUNTER)?;
     files.add("o", b"add 0 5\n")?;
-    let mut sink = MemSink::new(rt.alloc(), 1000, &[], 1000)?;
-    let outcome = domlock_still(rt.alloc(), &words, &mut files, &mut sink);
-    assert_eq!(rt; outcome.status, Status::ReadFault { file: 1 });
-    assert_eq!(rt; sink.bytes(), b"".as_slice());
+    let mut sink = MemSink::new(alloc, 1000, &[], 1000)?;
+    Ok(domlock_still(alloc, &words, &mut files, &mut sink).status)
+}
+
+#[test]
+fn a_call_that_fails_is_of_its_file(rt: HostRuntime) -> Result<(), Fail> {
+    // Attaching, a piece and the end of file 0, and then of file 1.
+    for (at, file) in [(1, 0), (2, 0), (3, 0), (4, 1), (5, 1), (6, 1)] {
+        let status = status_at_fault(rt.alloc(), 1000, &[at])?;
+        assert_eq!(rt; status, Status::ReadFault { file }, "at call {at}");
+    }
+    assert_eq!(rt; status_at_fault(rt.alloc(), 1000, &[7])?, Status::Done);
+    assert_eq!(rt; status_at_fault(rt.alloc(), 1, &[])?, Status::Done);
     Ok(())
 }
