@@ -31,7 +31,7 @@ pub fn run_input(alloc: Global, input: &Input) -> Result<Run, AllocError>
     requires start { HasStart input.now.source }
     requires one { length input.now.all.items ≡ 1 }
     requires calls { All (AreCallsOf input.now.source) input.now.all.items }
-    ensures run { IfOk result (λ run. IsRun input.now.source input.now.all.items run.history.entries run.refusals) }
+    ensures run { IfOk result (λ run. IsRun input.now.source input.now.all.items 4096 run.history.entries run.refusals) }
     ensures heap { IfOk result (λ run. run.heap.objects ≡ replayed input.now.source input.now.all.items (start_objects input.now.source) run.history.entries) }
     ensures moves { IfOk result (λ run. run.history.moves ≡ in_rising_versions (moves_of input.now.source input.now.all.items run.history.entries)) }
 {

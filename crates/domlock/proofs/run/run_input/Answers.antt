@@ -13,7 +13,8 @@ pub returns-clause-run : goal.returns-clause-run
 returns-clause-run c =
     let one = one_element c.args.input.now.all.items c.index.result.now c.requires.one c.index.ensures in
     let legal = rw c.in_ok-heap.ensures.start at c.in_ok-served.ensures.legal in
-    rw (one, c.in_ok-history.ensures.entries) record { covers = c.in_ok-served.ensures.covers; legal = legal }
+    let lawful = rw c.in_ok-heap.ensures.start at c.in_ok-served.ensures.pool in
+    rw (one, c.in_ok-history.ensures.entries) record { covers = c.in_ok-served.ensures.covers; legal = legal; lawful = lawful }
 
 pub returns-clause-heap : goal.returns-clause-heap
 returns-clause-heap c =
