@@ -1,0 +1,12 @@
+//! Laws of the meaning of statements: that a statement has at most one outcome, that it has one where it is typed, and
+//! that the relation by cases and the function that `dl_ir` defines say the same.
+#![tactic(auto)]
+
+ghost use Rattle.dl_meaning.specs.Single.{StatementsHaveAtMostOne, BlocksHaveAtMostOne, BlockDoesIsTheOutcome};
+
+/// That a statement has at most one outcome from a state, a block too, and that it is the one that the function gives.
+pub fn at_most_one()
+    ensures statements { StatementsHaveAtMostOne }
+    ensures blocks { BlocksHaveAtMostOne }
+    ensures function { BlockDoesIsTheOutcome }
+{}
