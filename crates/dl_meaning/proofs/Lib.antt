@@ -1,2 +1,6 @@
+mod Heaps
+mod Kept
+mod Places
 mod Sound
+mod Total
 mod Turns

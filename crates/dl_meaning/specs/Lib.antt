@@ -1,1 +1,4 @@
+pub mod Fitting
+pub mod OneOutcome
 pub mod Single
+pub mod Typed

@@ -2,6 +2,7 @@
 //! that the relation by cases and the function that `dl_ir` defines say the same.
 #![tactic(auto)]
 
+ghost use Rattle.dl_meaning.specs.OneOutcome.{TypedHasOneOutcome, BodiesHaveOneOutcome, FunctionIsRelation};
 ghost use Rattle.dl_meaning.specs.Single.{StatementsHaveAtMostOne, BlocksHaveAtMostOne, BlockDoesIsTheOutcome};
 
 /// That a statement has at most one outcome from a state, a block too, and that it is the one that the function gives.
@@ -9,4 +10,15 @@ pub fn at_most_one()
     ensures statements { StatementsHaveAtMostOne }
     ensures blocks { BlocksHaveAtMostOne }
     ensures function { BlockDoesIsTheOutcome }
+{}
+
+/// That a typed block has exactly one outcome from each state that fits, and so the body of each operation of a typed module.
+pub fn one_outcome()
+    ensures blocks { TypedHasOneOutcome }
+    ensures bodies { BodiesHaveOneOutcome }
+{}
+
+/// That the relation and the function say the same of a typed block at a state that fits.
+pub fn function_is_relation()
+    ensures { FunctionIsRelation }
 {}
