@@ -1,3 +1,4 @@
+mod First
 mod Heaps
 mod Kept
 mod Places

@@ -2,6 +2,7 @@
 //! that the relation by cases and the function that `dl_ir` defines say the same.
 #![tactic(auto)]
 
+ghost use Rattle.dl_meaning.specs.FirstStates.{FirstStatesFit, RootsAreHeld};
 ghost use Rattle.dl_meaning.specs.OneOutcome.{TypedHasOneOutcome, BodiesHaveOneOutcome, FunctionIsRelation};
 ghost use Rattle.dl_meaning.specs.Single.{StatementsHaveAtMostOne, BlocksHaveAtMostOne, BlockDoesIsTheOutcome};
 
@@ -21,4 +22,11 @@ pub fn one_outcome()
 /// That the relation and the function say the same of a typed block at a state that fits.
 pub fn function_is_relation()
     ensures { FunctionIsRelation }
+{}
+
+/// That an operation begins in a state that fits, so that the laws above speak of it, and that an argument's root may be given for a
+/// parameter of its kind.
+pub fn first_states_fit()
+    ensures states { FirstStatesFit }
+    ensures roots { RootsAreHeld }
 {}
