@@ -1,0 +1,7 @@
+mod First
+mod Heaps
+mod Kept
+mod Places
+mod Sound
+mod Total
+mod Turns

@@ -1,0 +1,5 @@
+pub mod Fitting
+pub mod FirstStates
+pub mod OneOutcome
+pub mod Single
+pub mod Typed

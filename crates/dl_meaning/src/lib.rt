@@ -1,0 +1,32 @@
+//! Laws of the meaning of statements: that a statement has at most one outcome, that it has one where it is typed, and
+//! that the relation by cases and the function that `dl_ir` defines say the same.
+#![tactic(auto)]
+
+ghost use Rattle.dl_meaning.specs.FirstStates.{FirstStatesFit, RootsAreHeld};
+ghost use Rattle.dl_meaning.specs.OneOutcome.{TypedHasOneOutcome, BodiesHaveOneOutcome, FunctionIsRelation};
+ghost use Rattle.dl_meaning.specs.Single.{StatementsHaveAtMostOne, BlocksHaveAtMostOne, BlockDoesIsTheOutcome};
+
+/// That a statement has at most one outcome from a state, a block too, and that it is the one that the function gives.
+pub fn at_most_one()
+    ensures statements { StatementsHaveAtMostOne }
+    ensures blocks { BlocksHaveAtMostOne }
+    ensures function { BlockDoesIsTheOutcome }
+{}
+
+/// That a typed block has exactly one outcome from each state that fits, and so the body of each operation of a typed module.
+pub fn one_outcome()
+    ensures blocks { TypedHasOneOutcome }
+    ensures bodies { BodiesHaveOneOutcome }
+{}
+
+/// That the relation and the function say the same of a typed block at a state that fits.
+pub fn function_is_relation()
+    ensures { FunctionIsRelation }
+{}
+
+/// That an operation begins in a state that fits, so that the laws above speak of it, and that an argument's root may be given for a
+/// parameter of its kind.
+pub fn first_states_fit()
+    ensures states { FirstStatesFit }
+    ensures roots { RootsAreHeld }
+{}
