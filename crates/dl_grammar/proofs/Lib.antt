@@ -10,3 +10,5 @@ pub mod GoodDeclarations
 pub mod Steps
 pub mod MoreSteps
 pub mod Whole
+pub mod Always
+pub mod Limited

@@ -2,3 +2,4 @@ pub mod Grammar
 pub mod Rules
 pub mod Readers
 pub mod Texts
+pub mod Limits

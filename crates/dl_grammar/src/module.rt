@@ -1,6 +1,7 @@
 ghost use Rattle.std.specs.Prelude.{◌≡◌, ◌≢◌, ℕ, ◌≤◌, length, IfOk, IfErr, MatchResult, List, slice_range};
 ghost use Rattle.dl_text.specs.Text.{InOrder};
 ghost use Rattle.dl_grammar.specs.Grammar.{finish};
+ghost use Rattle.dl_grammar.specs.Limits.{IsInLimits};
 ghost use Rattle.dl_grammar.specs.Readers as read;
 ghost use Rattle.dl_grammar.specs.Texts.{is_text, reserved, symbol, lexis_of, lexeme_of, lexemes_of, last_line, line_at, fault_in, text_fault, Answers, Spells, IsSyntaxFault};
 ghost use Rattle.dl_grammar.specs.declared.tree.Tree.{Tree as TreeOf};
@@ -228,6 +229,8 @@ pub fn read_module(alloc: Global, bytes: &[u8]) -> Result<Tree, SyntaxFault>
     // What is read is spelled so, and what is spelled so is read, unless memory runs out.
     ensures found { IfOk result (Spells bytes.now) }
     ensures only { (tree : TreeOf) → Spells bytes.now tree → MatchResult result (λ found. found ≡ tree) (λ fault. fault ≡ SyntaxFault.Memory) }
+
+    ensures limits { IfOk result IsInLimits }
 
     // A fault is the first one, and where there is one it is answered.
     ensures fault { IfErr result (λ fault. fault ≢ SyntaxFault.Memory → IsSyntaxFault bytes.now fault) }

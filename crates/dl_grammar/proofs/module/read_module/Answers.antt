@@ -3,6 +3,7 @@ use Rattle.dl_grammar.specs.Grammar.{finish}
 use Rattle.dl_grammar.specs.Readers as read
 use Rattle.dl_grammar.specs.Texts.{lexemes_of, text_fault, Answers}
 use Rattle.dl_grammar.proofs.Whole.{whole_found, whole_only, whole_fault, whole_only_fault, text_only_fault}
+use Rattle.dl_grammar.proofs.Limited.{all_in_limits}
 use Rattle.dl_grammar.proofs.module.read_module.Goals as goal
 use Rattle.dl_grammar.proofs.module.read_module.Goals.{After-read_lexemes}
 
@@ -20,6 +21,9 @@ answers c =
 
 pub returns-clause-found : goal.returns-clause-found
 returns-clause-found c = whole_found c.args.bytes.now c.in-Ok.found c.in-Ok.ensures.found c.read_lexemes.result (answers (goal.at.returns-clause-found c).After-read_lexemes)
+
+pub returns-clause-limits : goal.returns-clause-limits
+returns-clause-limits c = all_in_limits c.args.bytes.now c.read_lexemes.result (whole_found c.args.bytes.now c.in-Ok.found c.in-Ok.ensures.found c.read_lexemes.result (answers (goal.at.returns-clause-limits c).After-read_lexemes))
 
 pub returns-clause-only : goal.returns-clause-only
 returns-clause-only c = whole_only c.args.bytes.now c.in-Ok.found c.in-Ok.ensures.found c.read_lexemes.result (answers (goal.at.returns-clause-only c).After-read_lexemes)
