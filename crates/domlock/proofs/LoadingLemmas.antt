@@ -1,9 +1,16 @@
-use Rattle.std.proofs.Common.{◌≡◌, ◌≢◌, ℕ, List, Result, Ok, Err, IfErr, sym, ◌∙◌, subst, arith, Bool, true, false, zero-add}
+use Rattle.std.proofs.Common.{◌≡◌, ◌≢◌, ℕ, List, Result, Ok, Err, IfErr, refl, sym, ◌∙◌, subst, arith, Bool, true, false, zero-add}
 use Rattle.dl_io.specs.Source.{Source, Tells}
 use Rattle.dl_ir.specs.declared.modules.Module.{Module}
 use Rattle.dl_ir.specs.declared.calls.Call.{Call}
 use Rattle.dl_ir.specs.Heap.{HasStart}
-use Rattle.dl_syntax.specs.Counter.{IsCounterModule}
+use Rattle.dl_grammar.specs.Texts.{Spells, IsSyntaxFault}
+use Rattle.dl_grammar.specs.declared.tree.Tree.{Tree}
+use Rattle.dl_grammar.specs.declared.fault.SyntaxFault.{SyntaxFault}
+use Rattle.dl_grammar.specs.declared.fault.SyntaxFault.TheVariants as syntax
+use Rattle.dl_types.specs.Typing.{IsTypeFault}
+use Rattle.dl_types.specs.declared.fault.TypeFault.{TypeFault}
+use Rattle.dl_types.specs.declared.fault.TypeFault.TheVariants as types
+use Rattle.domlock.specs.declared.status.ModuleWhy.TheVariants as whys
 use Rattle.dl_syntax.specs.Calls.{IsCallsFault}
 use Rattle.dl_syntax.specs.declared.calls.CallsFault.{CallsFault}
 use Rattle.dl_syntax.specs.declared.calls.CallsFault.TheVariants as faults
@@ -11,7 +18,7 @@ use Rattle.domlock.specs.declared.status.Status.{Status}
 use Rattle.domlock.specs.declared.status.OpsWhy.{OpsWhy}
 use Rattle.domlock.specs.declared.status.OpsWhy.TheVariants as why
 use Rattle.domlock.specs.Causes.{NoModule, NoCalls}
-use Rattle.domlock.specs.Loading.{ParseCause, CallsCause, OpsCause}
+use Rattle.domlock.specs.Loading.{syntax_status, type_status, ParseCause, CallsCause, OpsCause}
 use Rattle.domlock.specs.Reading.{IsWithin}
 use Rattle.domlock.specs.Texts.{calls_fault}
 
@@ -46,14 +53,23 @@ no_calls old new source file path text (Ok calls) told within cause = tt
 no_calls old new source file path text (Err status) told within (OpsCause.at_fault line w is is_fault) = NoCalls.at_fault line w text is told is_fault within
 no_calls old new source file path text (Err status) told within (OpsCause.no_memory is) = NoCalls.no_memory is within
 
--- a module of counters has a start heap
-pub counter_start : {source : Module} → IsCounterModule source → HasStart source
-counter_start {source = source} counter =
-    let kind = counter.counters in record {
-      few_kinds = rw counter.only_kind (omega arith);
-      few_fields = rw counter.only_kind (kind.few_fields, tt);
-      row = rw counter.only_kind (record { of_root = λ e. kind.from_zero; of_node = λ e. absurd (roots_are_none e kind.is_root) }, rw zero-add kind.few_roots);
-    }
-  where
-    roots_are_none : {b : Bool} → b ≡ false → b ≡ true → ⊥
-    roots_are_none p q = cc
+-- the status of a fault of a text has the cause that the fault has
+pub syntax_cause : (text : List ℕ) (fault : SyntaxFault) → (fault ≢ syntax.Memory → IsSyntaxFault text fault) → ParseCause text (syntax_status fault)
+syntax_cause text (syntax.NotAscii at line) found = ParseCause.at_fault line whys.NotAscii refl (at, found (λ e. cc))
+syntax_cause text (syntax.BadByte at line) found = ParseCause.at_fault line whys.BadByte refl (at, found (λ e. cc))
+syntax_cause text (syntax.BigNumber at line) found = ParseCause.at_fault line whys.BigNumber refl (at, found (λ e. cc))
+syntax_cause text (syntax.Expected line) found = ParseCause.at_fault line whys.Expected refl (found (λ e. cc))
+syntax_cause text (syntax.TooDeep line) found = ParseCause.at_fault line whys.TooDeep refl (found (λ e. cc))
+syntax_cause text (syntax.Limit line which) found = ParseCause.at_fault line (whys.Limit which) refl (found (λ e. cc))
+syntax_cause text syntax.Memory found = ParseCause.no_memory refl
+
+-- the status of a fault of a tree has the cause that the fault has
+pub type_cause : (text : List ℕ) (tree : Tree) (fault : TypeFault) → Spells text tree → (fault ≢ types.Memory → IsTypeFault tree fault) → ParseCause text (type_status fault)
+type_cause text tree (types.Twice line) spelled found = ParseCause.at_fault line whys.Twice refl (record { tree = tree; spelled = spelled; at_fault = found (λ e. cc) })
+type_cause text tree (types.Unknown line) spelled found = ParseCause.at_fault line whys.Unknown refl (record { tree = tree; spelled = spelled; at_fault = found (λ e. cc) })
+type_cause text tree (types.KindClash line) spelled found = ParseCause.at_fault line whys.KindClash refl (record { tree = tree; spelled = spelled; at_fault = found (λ e. cc) })
+type_cause text tree (types.RootInField line) spelled found = ParseCause.at_fault line whys.RootInField refl (record { tree = tree; spelled = spelled; at_fault = found (λ e. cc) })
+type_cause text tree (types.NewRoot line) spelled found = ParseCause.at_fault line whys.NewRoot refl (record { tree = tree; spelled = spelled; at_fault = found (λ e. cc) })
+type_cause text tree (types.AssignRoot line) spelled found = ParseCause.at_fault line whys.AssignRoot refl (record { tree = tree; spelled = spelled; at_fault = found (λ e. cc) })
+type_cause text tree (types.NoRoots line) spelled found = ParseCause.at_fault line whys.NoRoots refl (record { tree = tree; spelled = spelled; at_fault = found (λ e. cc) })
+type_cause text tree types.Memory spelled found = ParseCause.no_memory refl

@@ -7,11 +7,37 @@ use Rattle.dl_syntax.specs.declared.calls.CallsFault.TheVariants as faults
 use Rattle.domlock.specs.declared.status.Status.{Status}
 use Rattle.domlock.specs.declared.status.Status.TheVariants as statuses
 use Rattle.domlock.specs.declared.status.ModuleWhy.{ModuleWhy}
+use Rattle.domlock.specs.declared.status.ModuleWhy.TheVariants as modules
 use Rattle.domlock.specs.declared.status.OpsWhy.{OpsWhy}
+use Rattle.dl_grammar.specs.declared.fault.SyntaxFault.{SyntaxFault}
+use Rattle.dl_grammar.specs.declared.fault.SyntaxFault.TheVariants as syntax
+use Rattle.dl_types.specs.declared.fault.TypeFault.{TypeFault}
+use Rattle.dl_types.specs.declared.fault.TypeFault.TheVariants as types
 use Rattle.domlock.specs.Texts.{IsModuleFault, IsOpsFault, AreFiles, calls_fault}
 use Rattle.domlock.specs.Causes.{NoCalls}
 use Rattle.domlock.specs.Reading.{IsWithin}
 use Rattle.domlock.specs.Words.{Text}
+
+-- the status that a fault of a module text is answered with
+abbrev pub syntax_status : SyntaxFault → Status
+syntax_status (syntax.NotAscii at line) = statuses.ModuleFault line modules.NotAscii
+syntax_status (syntax.BadByte at line) = statuses.ModuleFault line modules.BadByte
+syntax_status (syntax.BigNumber at line) = statuses.ModuleFault line modules.BigNumber
+syntax_status (syntax.Expected line) = statuses.ModuleFault line modules.Expected
+syntax_status (syntax.TooDeep line) = statuses.ModuleFault line modules.TooDeep
+syntax_status (syntax.Limit line which) = statuses.ModuleFault line (modules.Limit which)
+syntax_status syntax.Memory = statuses.Memory
+
+-- the status that a fault of names and types is answered with
+abbrev pub type_status : TypeFault → Status
+type_status (types.Twice line) = statuses.ModuleFault line modules.Twice
+type_status (types.Unknown line) = statuses.ModuleFault line modules.Unknown
+type_status (types.KindClash line) = statuses.ModuleFault line modules.KindClash
+type_status (types.RootInField line) = statuses.ModuleFault line modules.RootInField
+type_status (types.NewRoot line) = statuses.ModuleFault line modules.NewRoot
+type_status (types.AssignRoot line) = statuses.ModuleFault line modules.AssignRoot
+type_status (types.NoRoots line) = statuses.ModuleFault line modules.NoRoots
+type_status types.Memory = statuses.Memory
 
 -- why a text was not read as a module: its fault, or want of memory
 pub data ParseCause (text : List ℕ) (status : Status) : Type 0 where

@@ -1,6 +1,6 @@
 use Rattle.std.specs.Prelude.{ℕ, ◌++◌, List, [], codes, decimal}
-use Rattle.domlock.specs.declared.status.Limit.{Limit}
-use Rattle.domlock.specs.declared.status.Limit.TheVariants as limits
+use Rattle.dl_grammar.specs.declared.fault.Which.{Which}
+use Rattle.dl_grammar.specs.declared.fault.Which.TheVariants as limits
 use Rattle.domlock.specs.declared.status.ModuleWhy.{ModuleWhy}
 use Rattle.domlock.specs.declared.status.ModuleWhy.TheVariants as modules
 use Rattle.domlock.specs.declared.status.OpsWhy.{OpsWhy}
@@ -9,7 +9,7 @@ use Rattle.domlock.specs.declared.status.Status.{Status}
 use Rattle.domlock.specs.declared.status.Status.TheVariants as statuses
 
 -- the name of a limit, with a word before it
-abbrev pub limit_text : Limit → List ℕ
+abbrev pub limit_text : Which → List ℕ
 limit_text limits.Kinds = codes "Limit Kinds"
 limit_text limits.Fields = codes "Limit Fields"
 limit_text limits.Ops = codes "Limit Ops"
@@ -22,7 +22,6 @@ limit_text limits.Operators = codes "Limit Operators"
 
 -- the name of a fault of a module
 abbrev pub module_why_text : ModuleWhy → List ℕ
-module_why_text modules.NotYet = codes "NotYet"
 module_why_text modules.NotAscii = codes "NotAscii"
 module_why_text modules.BadByte = codes "BadByte"
 module_why_text modules.BigNumber = codes "BigNumber"

@@ -3,7 +3,12 @@ use Rattle.dl_io.specs.Source.{Source, Tells}
 use Rattle.dl_ir.specs.declared.modules.Module.{Module}
 use Rattle.dl_ir.specs.declared.calls.Call.{Call}
 use Rattle.dl_syntax.specs.Calls.{IsCallsFile, IsCallsFault}
-use Rattle.dl_syntax.specs.Counter.{IsCounterModule}
+use Rattle.dl_grammar.specs.Texts.{Spells as SpellsTree, IsSyntaxFault}
+use Rattle.dl_grammar.specs.declared.tree.Tree.{Tree}
+use Rattle.dl_grammar.specs.declared.fault.SyntaxFault.TheVariants as syntax
+use Rattle.dl_types.specs.Typing.{Types, IsTypeFault}
+use Rattle.dl_types.specs.declared.fault.TypeFault.{TypeFault}
+use Rattle.dl_types.specs.declared.fault.TypeFault.TheVariants as types
 use Rattle.dl_syntax.specs.declared.calls.CallsFault.{CallsFault}
 use Rattle.dl_syntax.specs.declared.calls.CallsFault.TheVariants as faults
 use Rattle.domlock.specs.declared.status.ModuleWhy.{ModuleWhy}
@@ -12,14 +17,33 @@ use Rattle.domlock.specs.declared.status.OpsWhy.{OpsWhy}
 use Rattle.domlock.specs.declared.status.OpsWhy.TheVariants as calls
 use Rattle.domlock.specs.Words.{Text, Task}
 
--- a text and the module that it is read as; so far it is said only which modules are read at all
+-- the text spells a tree, and the tree is this module
 pub record IsModuleText (text : Text) (source : Module) : Type 0 where
-  pub counters : IsCounterModule source
+  pub tree : Tree
+  pub spelled : SpellsTree text tree
+  pub typed : Types tree source
 
--- the fault of a text that is read as no module; so far there is one for all of them
-pub record IsModuleFault (text : Text) (line : ℕ) (why : ModuleWhy) : Type 0 where
-  pub no_line : line ≡ 0
-  pub not_yet : why ≡ modules.NotYet
+-- the text spells a tree of which this is the first fault
+pub record HasTypeFault (text : Text) (fault : TypeFault) : Type 0 where
+  pub tree : Tree
+  pub spelled : SpellsTree text tree
+  pub at_fault : IsTypeFault tree fault
+
+-- the text is no module, and this is its first fault: of its bytes, of its tokens, or of its names and types
+abbrev pub IsModuleFault : Text → ℕ → ModuleWhy → Type 0
+IsModuleFault text line modules.NotAscii = (at : ℕ) × IsSyntaxFault text (syntax.NotAscii at line)
+IsModuleFault text line modules.BadByte = (at : ℕ) × IsSyntaxFault text (syntax.BadByte at line)
+IsModuleFault text line modules.BigNumber = (at : ℕ) × IsSyntaxFault text (syntax.BigNumber at line)
+IsModuleFault text line modules.Expected = IsSyntaxFault text (syntax.Expected line)
+IsModuleFault text line modules.TooDeep = IsSyntaxFault text (syntax.TooDeep line)
+IsModuleFault text line (modules.Limit which) = IsSyntaxFault text (syntax.Limit line which)
+IsModuleFault text line modules.Twice = HasTypeFault text (types.Twice line)
+IsModuleFault text line modules.Unknown = HasTypeFault text (types.Unknown line)
+IsModuleFault text line modules.KindClash = HasTypeFault text (types.KindClash line)
+IsModuleFault text line modules.RootInField = HasTypeFault text (types.RootInField line)
+IsModuleFault text line modules.NewRoot = HasTypeFault text (types.NewRoot line)
+IsModuleFault text line modules.AssignRoot = HasTypeFault text (types.AssignRoot line)
+IsModuleFault text line modules.NoRoots = HasTypeFault text (types.NoRoots line)
 
 -- the fault of this name in a line of an operation file
 abbrev pub calls_fault : ℕ → OpsWhy → CallsFault

@@ -6,23 +6,52 @@ ghost use Rattle.domlock.specs.Reading.{AfterReading, IsWithin};
 ghost use Rattle.domlock.specs.Texts.{IsModuleText, IsModuleFile, IsFile, AreFiles, Spells};
 ghost use Rattle.domlock.specs.Words.{task_of};
 ghost use Rattle.dl_syntax.specs.Calls.{IsCallsFile};
-ghost use Rattle.domlock.specs.Loading.{ParseCause, CallsCause, OpsCause, StopsAt};
+ghost use Rattle.domlock.specs.Loading.{syntax_status, type_status, ParseCause, CallsCause, OpsCause, StopsAt};
 
 use crate::reading::read_file;
 use crate::status::{ModuleWhy, OpsWhy, Status};
 use crate::words::Command;
 use dl_io::Files;
 use dl_ir::{Calls, Module};
-use dl_syntax::{CallsFault, SyntaxFault, TypeFault, check, read_calls, read_module};
+use dl_grammar::{SyntaxFault, read_module};
+use dl_syntax::{CallsFault, read_calls};
+use dl_types::{TypeFault, check};
 use std::alloc::Global;
 
-// A fault of a module that is not of the form that is read so far.
-fn not_yet() -> Status
-    ensures { result ≡ Status.ModuleFault 0 ModuleWhy.NotYet }
+fn module_fault(line: u32, why: ModuleWhy) -> Status
+    ensures { result ≡ Status.ModuleFault line why }
 {
-    Status::ModuleFault {
-        line: 0,
-        why: ModuleWhy::NotYet,
+    Status::ModuleFault { line, why }
+}
+
+// The status of a fault of a module text.
+fn status_of_syntax(fault: SyntaxFault) -> Status
+    ensures { result ≡ syntax_status fault }
+{
+    match fault {
+        SyntaxFault::NotAscii { line, .. } => module_fault(line, ModuleWhy::NotAscii),
+        SyntaxFault::BadByte { line, .. } => module_fault(line, ModuleWhy::BadByte),
+        SyntaxFault::BigNumber { line, .. } => module_fault(line, ModuleWhy::BigNumber),
+        SyntaxFault::Expected { line } => module_fault(line, ModuleWhy::Expected),
+        SyntaxFault::TooDeep { line } => module_fault(line, ModuleWhy::TooDeep),
+        SyntaxFault::Limit { line, which } => module_fault(line, ModuleWhy::Limit(which)),
+        SyntaxFault::Memory => Status::Memory,
+    }
+}
+
+// The status of a fault of names and types.
+fn status_of_types(fault: TypeFault) -> Status
+    ensures { result ≡ type_status fault }
+{
+    match fault {
+        TypeFault::Twice { line } => module_fault(line, ModuleWhy::Twice),
+        TypeFault::Unknown { line } => module_fault(line, ModuleWhy::Unknown),
+        TypeFault::KindClash { line } => module_fault(line, ModuleWhy::KindClash),
+        TypeFault::RootInField { line } => module_fault(line, ModuleWhy::RootInField),
+        TypeFault::NewRoot { line } => module_fault(line, ModuleWhy::NewRoot),
+        TypeFault::AssignRoot { line } => module_fault(line, ModuleWhy::AssignRoot),
+        TypeFault::NoRoots { line } => module_fault(line, ModuleWhy::NoRoots),
+        TypeFault::Memory => Status::Memory,
     }
 }
 
@@ -36,13 +65,11 @@ fn parse_module(alloc: Global, text: &[u8]) -> Result<Module, Status>
 {
     let tree = match read_module(alloc, text) {
         Ok(tree) => tree,
-        Err(SyntaxFault::NotYet) => return Err(not_yet()),
-        Err(SyntaxFault::Memory) => return Err(Status::Memory),
+        Err(fault) => return Err(status_of_syntax(fault)),
     };
     match check(alloc, &tree) {
         Ok(source) => Ok(source),
-        Err(TypeFault::NotYet) => Err(not_yet()),
-        Err(TypeFault::Memory) => Err(Status::Memory),
+        Err(fault) => Err(status_of_types(fault)),
     }
 }
 

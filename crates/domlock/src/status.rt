@@ -2,6 +2,7 @@ ghost use Rattle.std.specs.Prelude.{◌≡◌, ◌++◌, [], decimal, false};
 ghost use Rattle.dl_text.specs.Writing.{Puts};
 ghost use Rattle.domlock.specs.Status.{limit_text, module_why_text, ops_why_text, placed_text, status_text, code_of};
 
+use dl_grammar::Which;
 use dl_text::{Failed, Out, Sink};
 
 /// How a call ended. Files are numbered by their words: the module is file 0.
@@ -28,14 +29,12 @@ pub enum Status {
 /// Why a text is no module. `docs/LANGUAGE.md` tells when each comes.
 #[derive(Clone, Copy, Debug, PartialEq, Eq)]
 pub enum ModuleWhy {
-    /// The module is of a form that is not carried out so far.
-    NotYet,
     NotAscii,
     BadByte,
     BigNumber,
     Expected,
     TooDeep,
-    Limit(Limit),
+    Limit(Which),
     Twice,
     Unknown,
     KindClash,
@@ -43,20 +42,6 @@ pub enum ModuleWhy {
     NewRoot,
     AssignRoot,
     NoRoots,
-}
-
-/// A limit of module texts.
-#[derive(Clone, Copy, Debug, PartialEq, Eq)]
-pub enum Limit {
-    Kinds,
-    Fields,
-    Ops,
-    Locals,
-    Roots,
-    Allocs,
-    Fuel,
-    Literal,
-    Operators,
 }
 
 /// Why a text is no operation file of a module. `docs/LANGUAGE.md` tells when each comes.
@@ -71,19 +56,19 @@ pub enum OpsWhy {
     NoRoot,
 }
 
-fn limit_name(limit: Limit) -> &'static str
+fn limit_name(limit: Which) -> &'static str
     ensures { result.now ≡ limit_text limit }
 {
     match limit {
-        Limit::Kinds => "Limit Kinds",
-        Limit::Fields => "Limit Fields",
-        Limit::Ops => "Limit Ops",
-        Limit::Locals => "Limit Locals",
-        Limit::Roots => "Limit Roots",
-        Limit::Allocs => "Limit Allocs",
-        Limit::Fuel => "Limit Fuel",
-        Limit::Literal => "Limit Literal",
-        Limit::Operators => "Limit Operators",
+        Which::Kinds => "Limit Kinds",
+        Which::Fields => "Limit Fields",
+        Which::Ops => "Limit Ops",
+        Which::Locals => "Limit Locals",
+        Which::Roots => "Limit Roots",
+        Which::Allocs => "Limit Allocs",
+        Which::Fuel => "Limit Fuel",
+        Which::Literal => "Limit Literal",
+        Which::Operators => "Limit Operators",
     }
 }
 
@@ -91,7 +76,6 @@ fn module_why_name(why: ModuleWhy) -> &'static str
     ensures { result.now ≡ module_why_text why }
 {
     match why {
-        ModuleWhy::NotYet => "NotYet",
         ModuleWhy::NotAscii => "NotAscii",
         ModuleWhy::BadByte => "BadByte",
         ModuleWhy::BigNumber => "BigNumber",

@@ -121,7 +121,7 @@ fn each_refusal_has_its_line_and_code(rt: HostRuntime) -> Result<(), Fail> {
             "serial m o",
             b"domlock 1\n",
             b"",
-            b"domlock: module line 0: NotYet\n",
+            b"domlock: module line 1: NoRoots\n",
             4,
         ),
         (
