@@ -2,7 +2,8 @@
 use Rattle.std.proofs.Common.{◌≡◌, ℕ, suc, ◌+◌, ◌-◌, ◌*◌, ◌<◌, Bool, true, false, nat_le, List, [], ◌∷◌, ◌++◌, length, get_or, drop, drop-cons, refl, ap, ◌∙◌, sym, arith, Option, Some, None, append_assoc}
 use Rattle.std.specs.Prelude.{ℤ}
 use Rattle.std.proofs.lemmas.Bool.Decides.{nat_tests}
-use Rattle.dl_syntax.specs.Line.{is_digit, digits_from, digits_of, at_most, with_number}
+use Rattle.dl_text.specs.Bytes.{is_digit}
+use Rattle.dl_syntax.specs.Line.{digits_from, digits_of, at_most, with_number}
 
 -- one digit more
 digits_step : (n i : ℕ) (digits : List ℕ) → i < length digits → is_digit (get_or digits i 0) ≡ true

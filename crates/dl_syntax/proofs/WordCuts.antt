@@ -2,7 +2,8 @@
 use Rattle.std.proofs.Common.{◌≡◌, ◌≢◌, ℕ, suc, ◌+◌, ◌≤◌, Bool, true, false, not, List, [], ◌∷◌, length, take, drop, refl, ap, ◌∙◌, sym, subst, arith, filter}
 use Rattle.std.specs.List.{prefix_len}
 use Rattle.std.proofs.lemmas.List.Sums.{prefix_len-le-length}
-use Rattle.dl_syntax.specs.Line.{is_blank, with_first, pieces, is_filled, words_of}
+use Rattle.dl_text.specs.Bytes.{is_blank}
+use Rattle.dl_syntax.specs.Line.{with_first, pieces, is_filled, words_of}
 
 -- a front is within the list
 pub front_within : (p : ℕ → Bool) (xs : List ℕ) → prefix_len p xs ≤ length xs

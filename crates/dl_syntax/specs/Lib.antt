@@ -1,4 +1,3 @@
-pub mod Limits
 pub mod Counter
 pub mod Line
 pub mod Calls

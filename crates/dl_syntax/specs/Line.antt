@@ -1,14 +1,11 @@
 -- How a text is cut into lines and a line into words, and what a number says.
 use Rattle.std.specs.Prelude.{ℕ, ◌+◌, ◌-◌, ◌*◌, ◌^◌, Bool, true, false, ◌&&◌, ◌||◌, not, ◌==◌, nat_le, nat_lt, if◌then◌else◌, List, [], ◌∷◌, filter, Option, Some, None, ℤ, pos, neg_ℤ}
 use Rattle.std.specs.List.{take_while}
+use Rattle.dl_text.specs.Bytes.{is_blank, is_digit}
 
 -- the byte that ends a line
 abbrev pub is_feed : ℕ → Bool
 is_feed b = b == 10
-
--- space, tab and carriage return
-abbrev pub is_blank : ℕ → Bool
-is_blank b = b == 32 || b == 9 || b == 13
 
 -- the byte that begins a comment
 abbrev pub is_hash : ℕ → Bool
@@ -44,10 +41,6 @@ words_of bytes = filter is_filled (pieces is_blank bytes)
 -- a line without its comment
 abbrev pub before_comment : List ℕ → List ℕ
 before_comment line = take_while (λ b. not (is_hash b)) line
-
--- a decimal digit
-abbrev pub is_digit : ℕ → Bool
-is_digit b = nat_le 48 b && nat_le b 57
 
 -- what digits say in decimal behind a number that was read; none where a byte is no digit
 abbrev pub digits_from : ℕ → List ℕ → Option ℕ

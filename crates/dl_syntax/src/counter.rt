@@ -1,10 +1,10 @@
 ghost use Rattle.std.specs.Prelude.{◌≡◌, ◌+◌, ◌≤◌, length, IfOk, All};
 ghost use Rattle.std.specs.List.{list_any};
-ghost use Rattle.dl_syntax.specs.Limits.{IsInLimits, IsKindInLimits, IsOpInLimits};
+ghost use Rattle.dl_grammar.specs.Limits.{IsInLimits, IsKindInLimits, IsOpInLimits};
 ghost use Rattle.dl_syntax.specs.Counter.{IsNumberField, IsCounterKind, IsCounterType, IsCounterParam, IsNumberLocal, local_type, is_root_local, IsCounterBody, IsCounterOp, IsCounterModule};
 
 use crate::scope::{Scope, find_field, find_local};
-use crate::tree::{Tree, TreeField, TreeKind, TreeOp, TreeStmt, Word};
+use dl_grammar::{Tree, TreeField, TreeKind, TreeOp, TreeStmt, Word};
 use dl_ir::{Block, FieldDecl, KindDecl, LocalDecl, Module, OpDecl, Text, Ty};
 use sqlite_items::Items;
 use std::alloc::{AllocError, Global};

@@ -1,5 +1,6 @@
 ghost use Rattle.std.specs.Prelude.{◌≡◌, ◌≤◌, ◌^◌, ◌-◌, IfOk, pos, neg_ℤ};
-ghost use Rattle.dl_syntax.specs.Line.{is_digit, digits_of, at_most, number_of, numbers_of, words_of};
+ghost use Rattle.dl_text.specs.Bytes.{is_digit};
+ghost use Rattle.dl_syntax.specs.Line.{digits_of, at_most, number_of, numbers_of, words_of};
 
 use crate::words::next_word;
 use sqlite_items::Items;

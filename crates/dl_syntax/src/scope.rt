@@ -2,7 +2,7 @@ ghost use Rattle.std.specs.Prelude.{◌≡◌, ◌+◌, ◌<◌, ◌≤◌, leng
 ghost use Rattle.dl_syntax.specs.Counter.{local_type, some_passes, is_number, is_root, is_counter_expr, is_counter_stmt, type_of};
 
 use crate::counter::TypeFault;
-use crate::tree::{Rhs, Side, TreeExpr, TreeStmt, What, Word};
+use dl_grammar::{Rhs, Side, TreeExpr, TreeStmt, What, Word};
 use dl_ir::{Expr, FieldDecl, LocalDecl, Op, Stmt, Ty};
 use sqlite_items::Boxed;
 use std::alloc::Global;

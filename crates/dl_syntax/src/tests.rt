@@ -1,6 +1,6 @@
 ghost use Rattle.std.specs.Prelude.{◌*◌, ◌≤◌, length, IfOk};
 
-use crate::{CallsFault, SyntaxFault, TypeFault, check, read_calls, read_module};
+use crate::{CallsFault, SyntaxFault, TypeFault, Which, check, read_calls, read_module};
 use dl_ir::{FieldDecl, KindDecl, LocalDecl, Module, OpDecl, Text, Ty};
 use sqlite_items::Items;
 use std::alloc::{AllocError, Global};
@@ -42,25 +42,84 @@ fn counter_is_read_and_checked(rt: HostRuntime) -> Result<(), Fail> {
     Ok(())
 }
 
+/// The fault of a text that the grammar refuses, if it does.
+fn refused(alloc: Global, text: &[u8]) -> Option<SyntaxFault>
+    requires { length text.now ≤ 1000000 }
+{
+    read_module(alloc, text).err()
+}
+
 #[test]
-fn other_texts_are_not_read_yet(rt: HostRuntime) -> Result<(), Fail> {
-    let node = read_module(rt.alloc(), b"domlock 1\nnode N { a: int }\n");
-    assert_eq!(rt; node.err(), Some(SyntaxFault::NotYet));
-    let open = read_module(
-        rt.alloc(),
-        b"domlock 1\nroot R 1 { }\nop f(r: R) allocs 0 fuel 0 {\n  return r;\n",
-    );
-    assert_eq!(rt; open.err(), Some(SyntaxFault::NotYet));
-    let reference = read_module(
-        rt.alloc(),
-        b"domlock 1 root R 1 { } op f(r: R) allocs 0 fuel 0 { return r; }",
-    )?;
+fn other_texts_are_refused_at_their_line(rt: HostRuntime) {
+    let alloc = rt.alloc();
     assert_eq!(rt;
-        check(rt.alloc(), &reference).err(),
-        Some(TypeFault::NotYet)
+        refused(
+            alloc,
+            b"domlock 1\nroot R 1 { }\nop f(r: R) allocs 0 fuel 0 {\n  return r;\n"
+        ),
+        Some(SyntaxFault::Expected { line: 4 })
     );
-    let twice = read_module(rt.alloc(), b"domlock 1 root R 1 { a: int, a: int }")?;
-    assert_eq!(rt; check(rt.alloc(), &twice).err(), Some(TypeFault::NotYet));
+    assert_eq!(rt;
+        refused(
+            alloc,
+            b"domlock 1\nroot R 1 { }\nop f(r: R) allocs 0 fuel 0\n  return 1;\n}\n"
+        ),
+        Some(SyntaxFault::Expected { line: 4 })
+    );
+    assert_eq!(rt;
+        refused(alloc, b"domlock 1\nroot R 1025 { }"),
+        Some(SyntaxFault::Limit {
+            line: 2,
+            which: Which::Roots
+        })
+    );
+    assert_eq!(rt;
+        refused(alloc, b"domlock 1\nroot R 1 { }\n$"),
+        Some(SyntaxFault::BadByte { at: 23, line: 3 })
+    );
+}
+
+/// What a module text is refused for when it is checked, if it is.
+fn unchecked(alloc: Global, text: &[u8]) -> Result<Option<TypeFault>, SyntaxFault>
+    requires { length text.now ≤ 1000000 }
+{
+    let tree = read_module(alloc, text)?;
+    Ok(check(alloc, &tree).err())
+}
+
+#[test]
+fn other_modules_are_read_and_not_checked_yet(rt: HostRuntime) -> Result<(), Fail> {
+    let alloc = rt.alloc();
+    let not_yet = Some(TypeFault::NotYet);
+    assert_eq!(rt;
+        unchecked(alloc, b"domlock 1\nnode N { a: int }\n")?,
+        not_yet
+    );
+    assert_eq!(rt;
+        unchecked(
+            alloc,
+            b"domlock 1 root R 1 { } op f(r: R) allocs 0 fuel 0 { return r; }"
+        )?,
+        not_yet
+    );
+    assert_eq!(rt;
+        unchecked(
+            alloc,
+            b"domlock 1 root R 1 { } op f(r: R) allocs 1 fuel 0 { return 1; }"
+        )?,
+        not_yet
+    );
+    assert_eq!(rt;
+        unchecked(
+            alloc,
+            b"domlock 1 root R 1 { } op f(r: R) allocs 0 fuel 0 { while (1 < 2) { return 1; } }"
+        )?,
+        not_yet
+    );
+    assert_eq!(rt;
+        unchecked(alloc, b"domlock 1 root R 1 { a: int, a: int }")?,
+        not_yet
+    );
     Ok(())
 }
 
@@ -228,5 +287,44 @@ fn every_cut_of_a_line(rt: HostRuntime) -> Result<(), Fail> {
     );
     assert_eq!(rt; fault(alloc, b"get 2")?, None);
     assert_eq!(rt; fault(alloc, b"get 2\n")?, None);
+    Ok(())
+}
+
+/// The number of calls in an operation file of one operation, `add` on a root with a number, or why it is refused.
+fn adds(alloc: Global, file: &[u8]) -> Result<Result<usize, CallsFault>, AllocError>
+    requires { length file.now ≤ 1000000 }
+{
+    let mut kinds = Items::new(alloc);
+    kinds.push(kind(alloc, b"CELL", 0, 1)?)?;
+    let mut ops = Items::new(alloc);
+    ops.push(operation(alloc, b"add", 0, 1)?)?;
+    let source = Module {
+        version: 1,
+        kinds,
+        ops,
+    };
+    Ok(read_calls(alloc, file, &source).map(|calls| calls.len()))
+}
+
+#[test]
+fn every_cut_of_a_call(rt: HostRuntime) -> Result<(), Fail> {
+    let alloc = rt.alloc();
+    let no_op = Err(CallsFault::NoOp { line: 1 });
+    let arguments = Err(CallsFault::ArgCount { line: 1 });
+    let table: [(&[u8], Result<usize, CallsFault>); 10] = [
+        (b"", Ok(0)),
+        (b"a", no_op),
+        (b"ad", no_op),
+        (b"add", arguments),
+        (b"add ", arguments),
+        (b"add 0", arguments),
+        (b"add 0 ", arguments),
+        (b"add 0 5", Ok(1)),
+        (b"add 0 5\n", Ok(1)),
+        (b"add 0 5 ", Ok(1)),
+    ];
+    for (file, want) in table {
+        assert_eq!(rt; adds(alloc, file)?, want);
+    }
     Ok(())
 }

@@ -1,6 +1,7 @@
 ghost use Rattle.std.specs.Prelude.{◌≡◌, ◌<◌, ◌≤◌, ◌+◌, ◌∷◌, [], ℕ, length, not, drop, take, filter, MatchOption};
 ghost use Rattle.std.specs.List.{prefix_len};
-ghost use Rattle.dl_syntax.specs.Line.{is_feed, is_blank, is_hash, words_of, before_comment};
+ghost use Rattle.dl_text.specs.Bytes.{is_blank};
+ghost use Rattle.dl_syntax.specs.Line.{is_feed, is_hash, words_of, before_comment};
 
 fn blanks_len(bytes: &[u8]) -> usize
     ensures { result ≡ prefix_len is_blank bytes.now }

@@ -1,5 +1,5 @@
 use Rattle.std.proofs.Common.{◌≡◌, get_or, true, arith}
-use Rattle.dl_syntax.specs.Line.{is_digit}
+use Rattle.dl_text.specs.Bytes.{is_digit}
 use Rattle.dl_syntax.proofs.Numbers.{too_big_here}
 use Rattle.dl_syntax.proofs.number.digits_up_to.Goals as goal
 
