@@ -1,0 +1,11 @@
+pub mod Good
+pub mod Rules
+pub mod Repeats
+pub mod Exact
+pub mod GoodLexemes
+pub mod GoodExpressions
+pub mod GoodSides
+pub mod GoodStatements
+pub mod GoodDeclarations
+pub mod Steps
+pub mod MoreSteps

@@ -1,0 +1,57 @@
+use sqlite_items::Items;
+
+/// A reserved word or a symbol.
+#[derive(Clone, Copy, Debug, PartialEq, Eq)]
+pub(crate) enum Fixed {
+    Domlock,
+    Root,
+    Node,
+    Op,
+    Allocs,
+    Fuel,
+    Var,
+    Int,
+    New,
+    Null,
+    If,
+    Else,
+    While,
+    Return,
+    LBrace,
+    RBrace,
+    LParen,
+    RParen,
+    Comma,
+    Colon,
+    Semicolon,
+    Assign,
+    Dot,
+    Plus,
+    Minus,
+    Star,
+    Slash,
+    Percent,
+    Less,
+    LessEq,
+    Equal,
+    NotEqual,
+}
+
+/// What a token says to the grammar.
+#[derive(Debug, Drop)]
+pub(crate) enum Lexis {
+    Fixed(Fixed),
+    /// A word that is not reserved.
+    Name(Items<u8>),
+    /// The number whose text is `1`.
+    One,
+    /// Any other number.
+    Number(u64),
+}
+
+/// A token as the grammar sees it, with its line.
+#[derive(Debug, Drop)]
+pub(crate) struct Lexeme {
+    pub(crate) lexis: Lexis,
+    pub(crate) line: u32,
+}
