@@ -1,3 +1,5 @@
 pub mod Checks
+pub mod Declarations
 pub mod Names
+pub mod Statements
 pub mod Typing

@@ -30,6 +30,11 @@ pub enum TypeFault {
 }
 
 impl From<AllocError> for TypeFault {
+    ghost use Rattle.std.specs.Prelude.{◌≡◌};
+    ghost use Rattle.dl_types.specs.declared.fault.TypeFault.TheVariants.{Memory};
+
+    ghost from_gives = { λ _ fault. fault ≡ Memory };
+
     fn from(_fault: AllocError) -> TypeFault {
         TypeFault::Memory
     }

@@ -1,7 +1,9 @@
 //! The types of the module language: which trees are modules, and the first fault of those that are none.
 #![tactic(auto)]
 
+mod declarations;
 mod fault;
 mod names;
+mod operands;
 
 pub use fault::TypeFault;

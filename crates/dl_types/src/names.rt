@@ -1,5 +1,5 @@
 ghost use Rattle.std.specs.Prelude.{◌≡◌, ◌+◌, ◌<◌, ◌≤◌, ◌^◌, length};
-ghost use Rattle.dl_types.specs.Names.{field_named, local_named, kind_named, tree_kind_named, has_op};
+ghost use Rattle.dl_types.specs.Names.{field_named, local_named, kind_named, tree_kind_named, has_op, local_of};
 
 use dl_grammar::TreeKind;
 use dl_ir::{FieldDecl, KindDecl, LocalDecl, OpDecl, Ty};
@@ -32,6 +32,17 @@ pub fn local_named(from: u32, locals: &[LocalDecl], name: &[u8]) -> Option<(u32,
         number += 1;
     }
     None
+}
+
+/// The number and the type of the parameter or the var of this name; parameters are numbered first.
+pub fn local_of(params: &[LocalDecl], vars: &[LocalDecl], name: &[u8]) -> Option<(u32, Ty)>
+    requires { length params.now + length vars.now < 2 ^ 32 }
+    ensures { result ≡ local_of params.now vars.now name.now }
+{
+    match local_named(0, params, name) {
+        Some(found) => Some(found),
+        None => local_named(params.len() as u32, vars, name),
+    }
 }
 
 /// The number of the kind of this name, and whether it is a root kind.
