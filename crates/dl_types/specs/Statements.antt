@@ -1,5 +1,5 @@
 -- What the statements of a tree are in a module, or the first fault in them.
-use Rattle.std.specs.Prelude.{ℕ, ◌+◌, Bool, true, false, ◌==◌, ◌&&◌, not, if◌then◌else◌, List, [], ◌∷◌, ◌++◌, length, codes, Option, Some, None, option_map, Result, Ok, Err, ℤ}
+use Rattle.std.specs.Prelude.{ℕ, ◌+◌, Bool, true, false, ◌==◌, ◌&&◌, not, if◌then◌else◌, List, [], ◌∷◌, ◌++◌, length, map, Option, Some, None, option_map, Result, Ok, Err, ℤ}
 use Rattle.dl_ir.specs.declared.modules.Ty.{Ty}
 use Rattle.dl_ir.specs.declared.modules.Ty.TheVariants.{Int, Of}
 use Rattle.dl_ir.specs.declared.modules.KindDecl.{KindDecl}
@@ -139,10 +139,10 @@ abbrev pub number_assigned : ℕ → Ty → Expr → Option Stmt
 number_assigned x Int e = Some (stmt.SetInt x e)
 number_assigned x (Of kind) e = None
 
--- a local that refers to objects of a kind gets a statement, if the kinds are the same
-abbrev pub of_kind : Ty → ℕ → Stmt → Option Stmt
-of_kind Int kind done = None
-of_kind (Of other) kind done = if other == kind then Some done else None
+-- a type is that of references to objects of a kind
+abbrev pub is_of_kind : Ty → ℕ → Bool
+is_of_kind Int kind = false
+is_of_kind (Of other) kind = other == kind
 
 -- a local that refers to objects gets null
 abbrev pub null_assigned : ℕ → Ty → Option Stmt
@@ -152,10 +152,10 @@ null_assigned p (Of kind) = Some (stmt.Null p)
 -- the assignment to a local of a type, if the types fit
 abbrev pub assigned : ℕ → Ty → Given → Option Stmt
 assigned x ty given.Null = null_assigned x ty
-assigned x ty (given.New kind) = of_kind ty kind (stmt.New x kind)
+assigned x ty (given.New kind) = if is_of_kind ty kind then Some (stmt.New x kind) else None
 assigned x ty (given.Field p f of) = field_assigned x ty p f of
 assigned x ty (given.Number e) = number_assigned x ty e
-assigned x ty (given.Reference p kind) = of_kind ty kind (stmt.Copy x p)
+assigned x ty (given.Reference p kind) = if is_of_kind ty kind then Some (stmt.Copy x p) else None
 assigned x ty given.Unfit = None
 
 -- an assignment in a line: first the unknown names, then a root parameter that is set, then a root that is made, then types that do not fit
@@ -195,17 +195,22 @@ sameness rel.Equal = Some true
 sameness rel.NotEqual = Some false
 
 -- a comparison of references, if they may be compared so
-abbrev pub refs_compared : Option Bool → Given → Given → Option Cond
-refs_compared (Some same) (given.Reference p kind) (given.Reference q other) =
+abbrev pub refs_compared : Bool → Given → Given → Option Cond
+refs_compared same (given.Reference p kind) (given.Reference q other) =
     if kind == other then Some (cond.Refs same (ref_side.Local p) (ref_side.Local q)) else None
-refs_compared (Some same) (given.Reference p kind) given.Null = Some (cond.Refs same (ref_side.Local p) ref_side.Null)
-refs_compared (Some same) given.Null (given.Reference q kind) = Some (cond.Refs same ref_side.Null (ref_side.Local q))
-refs_compared _ _ _ = None
+refs_compared same (given.Reference p kind) given.Null = Some (cond.Refs same (ref_side.Local p) ref_side.Null)
+refs_compared same given.Null (given.Reference q kind) = Some (cond.Refs same ref_side.Null (ref_side.Local q))
+refs_compared same _ _ = None
+
+-- a comparison of references, by a relation that they may have
+abbrev pub refs_related : Option Bool → Given → Given → Option Cond
+refs_related (Some same) a b = refs_compared same a b
+refs_related None a b = None
 
 -- a comparison, if its sides fit
 abbrev pub compared : Rel → Given → Given → Option Cond
 compared r (given.Number a) (given.Number b) = Some (cond.Ints r a b)
-compared r a b = refs_compared (sameness r) a b
+compared r a b = refs_related (sameness r) a b
 
 -- a condition of a statement that begins in this line
 abbrev pub cond_typed : List LocalDecl → List LocalDecl → ℕ → TreeCond → Result Cond TypeFault
@@ -237,3 +242,7 @@ what_step kinds params vars (What-F.Return e) line = return_typed params vars li
 -- a statement
 abbrev pub stmt_typed : List KindDecl → List LocalDecl → List LocalDecl → TreeStmt → Typed
 stmt_typed kinds params vars = fold-TreeStmt (ℕ → Typed) Typed (what_step kinds params vars) (λ (s : TreeStmt-F (ℕ → Typed) Typed). s.what s.line)
+
+-- a block
+abbrev pub block_typed : List KindDecl → List LocalDecl → List LocalDecl → List TreeStmt → Result (List Stmt) TypeFault
+block_typed kinds params vars block = in_turn (map (stmt_typed kinds params vars) block)

@@ -5,5 +5,6 @@ mod declarations;
 mod fault;
 mod names;
 mod operands;
+mod statements;
 
 pub use fault::TypeFault;
