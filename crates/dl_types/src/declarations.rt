@@ -1,4 +1,4 @@
-ghost use Rattle.std.specs.Prelude.{◌≡◌, ◌+◌, ◌<◌, ◌≤◌, ◌^◌, length, [], sum_by, codes, IfOk};
+ghost use Rattle.std.specs.Prelude.{◌≡◌, ◌+◌, ◌<◌, ◌≤◌, ◌^◌, length, [], sum_by, codes, IfOk, All};
 ghost use Rattle.std.specs.List.{AllByRecursion, list_any};
 ghost use Rattle.std.specs.Str.{bytes_eq};
 ghost use Rattle.dl_ir.specs.declared.modules.KindDecl.{KindDecl as Kind};
@@ -109,7 +109,8 @@ fn field_typed(alloc: Global, kinds: &[TreeKind], before: &[FieldDecl], field: &
 fn fields_typed(alloc: Global, kinds: &[TreeKind], fields: &[TreeField]) -> Result<Items<FieldDecl>, TypeFault>
     requires few_kinds { length kinds.now < 2 ^ 32 }
     requires few_fields { length fields.now ≤ 16 }
-    ensures { Gives (each (spec.field_typed kinds.now) [] fields.now) result }
+    ensures gives { Gives (each (spec.field_typed kinds.now) [] fields.now) result }
+    ensures count { IfOk result (λ typed. length typed ≡ length fields.now) }
 {
     let mut typed = Items::new(alloc);
     for field in fields {
@@ -131,7 +132,8 @@ fn kind_typed(
     requires few_before { length before.now < 2 ^ 32 }
     requires few_fields { length kind.now.fields ≤ 16 }
     requires next { next ≡ sum_by (λ (k : Kind). k.count) before.now }
-    ensures { Gives (spec.kind_typed kinds.now before.now kind.now) result }
+    ensures gives { Gives (spec.kind_typed kinds.now before.now kind.now) result }
+    ensures few_fields { IfOk result (λ declared. length declared.fields ≤ 16) }
 {
     if kind_named(before, kind.name.text.as_slice()).is_some() {
         return Err(TypeFault::Twice { line: kind.name.line });
@@ -147,7 +149,9 @@ pub fn kinds_typed(alloc: Global, kinds: &[TreeKind]) -> Result<Items<KindDecl>,
     requires few_kinds { length kinds.now ≤ 16 }
     requires few_fields { AllByRecursion (λ (kind : TreeKindOf). length kind.fields ≤ 16) kinds.now }
     requires few_roots { sum_by (λ (kind : TreeKindOf). kind.count) kinds.now ≤ 1024 }
-    ensures { Gives (each (spec.kind_typed kinds.now) [] kinds.now) result }
+    ensures gives { Gives (each (spec.kind_typed kinds.now) [] kinds.now) result }
+    ensures count { IfOk result (λ typed. length typed ≡ length kinds.now) }
+    ensures few_fields { IfOk result (All (λ (k : Kind). length k.fields ≤ 16)) }
 {
     let mut typed = Items::new(alloc);
     let mut next = 0;
@@ -185,7 +189,8 @@ pub fn params_typed(
 ) -> Result<Items<LocalDecl>, TypeFault>
     requires few_kinds { length kinds.now < 2 ^ 32 }
     requires few_params { length params.now ≤ 32 }
-    ensures { Gives (each (spec.param_typed kinds.now) [] params.now) result }
+    ensures gives { Gives (each (spec.param_typed kinds.now) [] params.now) result }
+    ensures count { IfOk result (λ typed. length typed ≡ length params.now) }
 {
     let mut typed = Items::new(alloc);
     for param in params {
@@ -223,7 +228,8 @@ pub fn vars_typed(
 ) -> Result<Items<LocalDecl>, TypeFault>
     requires few_kinds { length kinds.now < 2 ^ 32 }
     requires few_locals { length params.now + length vars.now ≤ 32 }
-    ensures { Gives (each (spec.var_typed kinds.now params.now) [] vars.now) result }
+    ensures gives { Gives (each (spec.var_typed kinds.now params.now) [] vars.now) result }
+    ensures count { IfOk result (λ typed. length typed ≡ length vars.now) }
 {
     let mut typed = Items::new(alloc);
     for var in vars {

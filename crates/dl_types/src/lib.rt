@@ -3,8 +3,10 @@
 
 mod declarations;
 mod fault;
+mod module;
 mod names;
 mod operands;
 mod statements;
 
+pub use module::check;
 pub use fault::TypeFault;

@@ -1,4 +1,4 @@
-ghost use Rattle.std.specs.Prelude.{◌≡◌, ◌+◌, ◌<◌, ◌≤◌, ◌^◌, ℕ, length, slice_get, Some};
+ghost use Rattle.std.specs.Prelude.{◌≡◌, ◌+◌, ◌<◌, ◌≤◌, ◌^◌, length, All};
 ghost use Rattle.dl_ir.specs.declared.modules.KindDecl.{KindDecl as Kind};
 ghost use Rattle.dl_types.specs.Checks.{Gives};
 ghost use Rattle.dl_types.specs.Names.{fields_of};
@@ -34,7 +34,7 @@ pub struct Scope<'a> {
     pub params: &'a [LocalDecl],
     pub vars: &'a [LocalDecl],
     ghost few_kinds: { length kinds.now ≤ 16 },
-    ghost few_fields: { (at : ℕ) (kind : Kind) → slice_get kinds.now at ≡ Some kind → length kind.fields ≤ 16 },
+    ghost few_fields: { All (λ (k : Kind). length k.fields ≤ 16) kinds.now },
     ghost few_locals: { length params.now + length vars.now ≤ 32 },
 }
 

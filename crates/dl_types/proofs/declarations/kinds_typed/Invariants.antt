@@ -1,4 +1,4 @@
-use Rattle.std.proofs.Common.{◌≡◌, ◌+◌, ◌≤◌, drop, [], length, sum_by}
+use Rattle.std.proofs.Common.{◌≡◌, ◌+◌, ◌≤◌, drop, [], length, sum_by, All}
 use Rattle.std.specs.List.{AllByRecursion}
 use Rattle.dl_ir.specs.declared.modules.KindDecl.{KindDecl}
 use Rattle.dl_grammar.specs.declared.tree.TreeKind.{TreeKind}
@@ -12,5 +12,6 @@ invariant-loop-kind l = record {
   roots : l.next ≡ sum_by (λ (k : KindDecl). k.count) l.typed;
   few_roots : l.next + sum_by (λ (k : TreeKind). k.count) (drop l.kind-index l.kinds) ≤ 1024;
   few_fields : AllByRecursion (λ (k : TreeKind). length k.fields ≤ 16) (drop l.kind-index l.kinds);
+  each_few : All (λ (k : KindDecl). length k.fields ≤ 16) l.typed;
   left : each (kind_typed l.kinds) l.typed (drop l.kind-index l.kinds) ≡ each (kind_typed l.kinds) [] l.kinds;
 }
