@@ -1,11 +1,10 @@
 -- A reader that reads the texts of a rule, and nothing else.
-use Rattle.std.proofs.Common.{◌≡◌, ℕ, ◌+◌, ◌-◌, ◌≤◌, ◌<◌, Bool, true, false, cond, List, [], ◌∷◌, ◌++◌, length, Option, Some, None, Result, Ok, Err, arith, refl, sym, ap, ◌∙◌, subst, append_assoc, zero, suc, inl, inr, length-append}
-use Rattle.std.specs.Prelude.{◌⊎◌, if◌then◌else◌}
+use Rattle.std.proofs.Common.{◌≡◌, Bool, true, List, [], ◌∷◌, ◌++◌, Option, Some, None, Ok, Err, refl, ap, ◌∙◌}
 use Rattle.dl_grammar.specs.declared.lexeme.Lexeme.{Lexeme}
 use Rattle.dl_grammar.specs.declared.fault.Bound.{Bound}
 use Rattle.dl_grammar.specs.declared.fault.Fault.{Fault}
 use Rattle.dl_grammar.specs.declared.fault.Fault.TheVariants as fault
-use Rattle.dl_grammar.specs.Grammar.{Ending, Read, Passed, Rule, One, Within, Beyond, Nothing, Empty, Then, Both, Cut, Or, Many, NoMore, OneMore, CutShort, whole, Ahead, ahead, Outcome, Reader, and_then, ◌>>=◌, pure, checked, valued, one, choose, repeat_from, repeat}
+use Rattle.dl_grammar.specs.Grammar.{Ending, Read, Passed, Rule, One, Within, Beyond, Nothing, Empty, Ahead, ahead, Outcome, Reader, pure, checked, valued, one}
 
 -- what a reader has to make of a text, and the lexemes with what follows
 abbrev pub answer : {A : Type 0} → Ending A → List Lexeme → Outcome A

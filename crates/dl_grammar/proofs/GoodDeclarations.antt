@@ -1,34 +1,30 @@
 -- The readers of declarations and modules read the texts of their rules.
-use Rattle.std.proofs.Common.{◌≡◌, ℕ, zero, suc, ◌+◌, Bool, true, false, cond, List, [], ◌∷◌, ◌++◌, length, Option, Some, None, refl, sym, ap, ◌∙◌, subst, inl, inr, arith, append_assoc}
-use Rattle.std.specs.Prelude.{◌⊎◌, not, is_some, ◌||◌, ◌&&◌}
+use Rattle.std.proofs.Common.{◌≡◌, ℕ, ◌+◌, Bool, true, false, List, [], ◌∷◌, ◌++◌, length, Option, Some, None, refl, ap, ◌∙◌, append_assoc}
+use Rattle.std.specs.Prelude.{not}
 use Rattle.dl_grammar.specs.declared.lexeme.Fixed.{Fixed}
 use Rattle.dl_grammar.specs.declared.lexeme.Fixed.TheVariants as f
 use Rattle.dl_grammar.specs.declared.lexeme.Lexis.{Lexis}
 use Rattle.dl_grammar.specs.declared.lexeme.Lexis.TheVariants as lexis
 use Rattle.dl_grammar.specs.declared.lexeme.Lexeme.{Lexeme}
 use Rattle.dl_grammar.specs.declared.fault.Bound.{Bound}
-use Rattle.dl_grammar.specs.declared.fault.Bound.TheVariants.{Levels, Limit}
+use Rattle.dl_grammar.specs.declared.fault.Bound.TheVariants.{Limit}
 use Rattle.dl_grammar.specs.declared.fault.Which.TheVariants as which
 use Rattle.dl_grammar.specs.declared.tree.Word.{Word}
 use Rattle.dl_grammar.specs.declared.tree.TreeField.{TreeField}
-use Rattle.dl_grammar.specs.declared.tree.TreeKind.{TreeKind}
 use Rattle.dl_grammar.specs.declared.tree.TreeOp.{TreeOp}
-use Rattle.dl_grammar.specs.declared.tree.TreeStmt.{TreeStmt, roll-TreeStmt}
-use Rattle.dl_grammar.specs.declared.tree.What.TheVariants as what
-use Rattle.dl_grammar.specs.declared.tree.TreeExpr.{TreeExpr}
-use Rattle.dl_grammar.specs.Grammar.{Ending, Read, Passed, Rule, One, Nothing, Empty, Then, Both, Cut, Or, Many, Ahead, ahead, Reader, ◌>>=◌, pure, one, choose, repeat}
+use Rattle.dl_grammar.specs.declared.tree.TreeStmt.{TreeStmt}
+use Rattle.dl_grammar.specs.Grammar.{Ending, Read, Passed, Rule, One, Nothing, Empty, Then, Both, Cut, Many, Ahead, ahead, ◌>>=◌, pure, one}
 use Rattle.dl_grammar.specs.Rules as rule
 use Rattle.dl_grammar.specs.Rules.{fixed, name, type_name, number, version, free, level, one_more, at_most, more_roots, Kinds}
 use Rattle.dl_grammar.specs.declared.declarations.Declared.{Declared}
 use Rattle.dl_grammar.specs.Readers as read
 use Rattle.dl_grammar.specs.Readers.{comes, starts_statement, starts_kind}
 use Rattle.dl_grammar.proofs.Good.{tail, Follows, Good, any, good_pure, good_one}
-use Rattle.dl_grammar.proofs.Rules.{Starts, starts_one, starts_then, starts_or, good_narrow, good_then, good_follow, good_choose}
+use Rattle.dl_grammar.proofs.Rules.{Starts, starts_then, starts_or, good_narrow, good_then, good_follow, good_choose}
 use Rattle.dl_grammar.proofs.Repeats.{good_many}
-use Rattle.dl_grammar.proofs.GoodLexemes.{sample, seen, good_fixed, good_word, good_map, good_before, starts_fixed, starts_name, starts_number}
-use Rattle.dl_grammar.proofs.GoodSides.{good_name, many_shows}
+use Rattle.dl_grammar.proofs.GoodLexemes.{sample, seen, good_word, good_map, good_before, starts_fixed, starts_name}
+use Rattle.dl_grammar.proofs.GoodSides.{many_shows}
 use Rattle.dl_grammar.proofs.GoodStatements.{good_statement, statement_shows, good_statements, closes, brace_shows}
-
 
 abbrev some_word : Word
 some_word = record { text = []; line = 1 }
@@ -90,7 +86,7 @@ unfolding read.fields
 good_fields =
     good_then (good_word f.LBrace refl) (λ l. good_before
     (good_choose (comes name) (good_narrow (good_fields_behind 16 (Limit which.Fields) 0) closes comma_brace) (good_narrow (good_pure []) closes (widens closes))
-      (fields_behind_shows 16 (Limit which.Fields) 0 (comes name) true (λ text line. refl)) (nothing_shows [] closes (comes name) false (brace_shows (comes name) false (λ line. refl))))
+    (fields_behind_shows 16 (Limit which.Fields) 0 (comes name) true (λ text line. refl)) (nothing_shows [] closes (comes name) false (brace_shows (comes name) false (λ line. refl))))
     (λ all. starts_then _ _ closes true (word_shows f.RBrace closes true (λ line. refl)))
     (λ all. good_map (λ (m : ℕ). all) (good_word f.RBrace refl)))
 
@@ -126,7 +122,7 @@ good_vars : (params : ℕ) → Good (read.vars params) (rule.vars params) no_var
 unfolding read.vars
 good_vars params =
     good_choose (comes (fixed f.Var)) (good_narrow (good_then (good_word f.Var refl) (λ l. good_before (good_fields_behind 32 (Limit which.Locals) params) (λ all. starts_then _ _ no_comma true (word_shows f.Semicolon no_comma true (λ line. refl)))
-      (λ all. good_map (λ (m : ℕ). all) (good_word f.Semicolon refl)))) no_var (widens no_var)) (good_narrow (good_pure []) no_var (widens no_var))
+    (λ all. good_map (λ (m : ℕ). all) (good_word f.Semicolon refl)))) no_var (widens no_var)) (good_narrow (good_pure []) no_var (widens no_var))
     (starts_then _ _ (comes (fixed f.Var)) true (word_shows f.Var (comes (fixed f.Var)) true (λ line. refl))) (nothing_shows [] no_var (comes (fixed f.Var)) false (λ o h. not_is (comes (fixed f.Var) o) h))
 
 -- where a statement begins, or a block ends, there is no var
@@ -149,7 +145,7 @@ body_follows : (w : Word) (params locals : List TreeField) (allocs fuel : ℕ) (
 body_follows w params locals allocs fuel e _ rest (Both {xs = xs} {ys = ys} stmts is next) =
     ap (λ ts. no_var (ahead ts)) (append_assoc xs ys (tail e rest))
     ∙ many_shows (λ before. Then (rule.statement 32) (λ s. Nothing (before ++ s ∷ []))) no_var true statement_var closes (brace_shows no_var true (λ line. refl)) [] (Read stmts) xs (ys ++ tail e rest) is
-      (starts_then (rule.word f.RBrace) _ closes true (word_shows f.RBrace closes true (λ line. refl)) e ys rest next)
+    (starts_then (rule.word f.RBrace) _ closes true (word_shows f.RBrace closes true (λ line. refl)) e ys rest next)
 body_follows w params locals allocs fuel _ ws rest (Cut {b = b} {t = t} is) =
     many_shows (λ before. Then (rule.statement 32) (λ s. Nothing (before ++ s ∷ []))) no_var true statement_var closes (brace_shows no_var true (λ line. refl)) [] (Passed b t) ws rest is tt
 
@@ -157,7 +153,7 @@ good_body : (w : Word) (params : List TreeField) (allocs fuel : ℕ) → Good (r
 unfolding read.body
 good_body w params allocs fuel = good_then (good_word f.LBrace refl) (λ l. good_follow (good_vars (length params))
     (λ locals. good_before (good_statements (good_statement 32) (statement_shows 32)) (λ stmts. starts_then _ _ closes true (word_shows f.RBrace closes true (λ line. refl)))
-      (λ stmts. good_map (λ (m : ℕ). let o : TreeOp = record { name = w; params = params; vars = locals; allocs = allocs; fuel = fuel; body = stmts } in o) (good_word f.RBrace refl)))
+    (λ stmts. good_map (λ (m : ℕ). let o : TreeOp = record { name = w; params = params; vars = locals; allocs = allocs; fuel = fuel; body = stmts } in o) (good_word f.RBrace refl)))
     (λ locals e ws rest is h. body_follows w params locals allocs fuel e ws rest is))
 
 good_quotas : Good read.quotas rule.quotas any

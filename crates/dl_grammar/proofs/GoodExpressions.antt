@@ -1,25 +1,21 @@
 -- The readers of expressions read the texts of their rules.
-use Rattle.std.proofs.Common.{◌≡◌, ℕ, zero, suc, ◌+◌, Bool, true, false, cond, List, [], ◌∷◌, ◌++◌, Option, Some, None, refl, sym, ap, ◌∙◌, subst, inl, inr, arith, append_assoc}
-use Rattle.std.specs.Prelude.{◌⊎◌, not, is_some, ◌||◌, ◌&&◌, pos}
-use Rattle.dl_ir.specs.declared.expressions.Op.{Op}
+use Rattle.std.proofs.Common.{◌≡◌, ℕ, zero, suc, ◌+◌, Bool, true, false, List, [], ◌++◌, Some, None, refl}
+use Rattle.std.specs.Prelude.{not, is_some, ◌&&◌, pos}
 use Rattle.dl_ir.specs.declared.expressions.Op.TheVariants as op
-use Rattle.dl_grammar.specs.declared.lexeme.Fixed.{Fixed}
 use Rattle.dl_grammar.specs.declared.lexeme.Fixed.TheVariants as f
 use Rattle.dl_grammar.specs.declared.lexeme.Lexis.{Lexis}
 use Rattle.dl_grammar.specs.declared.lexeme.Lexis.TheVariants as lexis
 use Rattle.dl_grammar.specs.declared.lexeme.Lexeme.{Lexeme}
-use Rattle.dl_grammar.specs.declared.fault.Bound.{Bound}
-use Rattle.dl_grammar.specs.declared.fault.Bound.TheVariants.{Levels, Limit}
+use Rattle.dl_grammar.specs.declared.fault.Bound.TheVariants.{Limit}
 use Rattle.dl_grammar.specs.declared.fault.Which.TheVariants as which
-use Rattle.dl_grammar.specs.declared.tree.TreeExpr.{TreeExpr}
 use Rattle.dl_grammar.specs.declared.tree.TreeExpr.TheVariants as e
-use Rattle.dl_grammar.specs.Grammar.{Ending, Read, Passed, Rule, One, Nothing, Then, Both, Cut, Or, Many, NoMore, OneMore, CutShort, Ahead, ahead, Reader, ◌>>=◌, pure, one, choose, repeat}
+use Rattle.dl_grammar.specs.Grammar.{Ending, Rule, Or, Many, Ahead, ahead, Reader, one, choose}
 use Rattle.dl_grammar.specs.Rules as rule
 use Rattle.dl_grammar.specs.Rules.{fixed, name, number, adding_in, adding, scaling_in, scaling, free, level, one_more, at_most, Counted}
 use Rattle.dl_grammar.specs.Readers as read
 use Rattle.dl_grammar.specs.Readers.{comes}
-use Rattle.dl_grammar.proofs.Good.{answer, tail, Follows, Good, any, good_pure, good_one}
-use Rattle.dl_grammar.proofs.Rules.{Starts, starts_one, starts_then, starts_or, good_narrow, good_then, good_follow, good_choose}
+use Rattle.dl_grammar.proofs.Good.{tail, Follows, Good, any, good_one}
+use Rattle.dl_grammar.proofs.Rules.{Starts, starts_then, starts_or, good_then, good_follow, good_choose}
 use Rattle.dl_grammar.proofs.Repeats.{good_many, follow}
 use Rattle.dl_grammar.proofs.GoodLexemes.{sample, seen, good_fixed, good_word, good_map, good_before, starts_fixed, starts_name, starts_number, starts_adding, starts_scaling}
 
@@ -131,14 +127,14 @@ module _ (room : ℕ) {reader : ℕ → Reader Counted} {inner : ℕ → Rule Co
       good_choose (comes (fixed f.Minus)) (good_negation used)
       (good_choose (comes (fixed f.LParen)) (good_bracket used)
       (good_choose (comes number) (good_literal used) (good_variable used)
-        (literal_shows (comes number) true (λ line. refl) (λ n line. refl))
-        (λ e ws rest is h. variable_shows (comes number) false (λ text line. refl) e ws rest is))
+      (literal_shows (comes number) true (λ line. refl) (λ n line. refl))
+      (λ e ws rest is h. variable_shows (comes number) false (λ text line. refl) e ws rest is))
       (starts_then _ _ (comes (fixed f.LParen)) true (starts_fixed f.LParen (level room) (comes (fixed f.LParen)) true (λ line. refl)))
       (λ e ws rest is h. starts_or (rule.literal used) (rule.variable used) (comes (fixed f.LParen)) false (literal_shows (comes (fixed f.LParen)) false (λ line. refl) (λ n line. refl)) (variable_shows (comes (fixed f.LParen)) false (λ text line. refl)) e ws rest is))
       (starts_then _ _ (comes (fixed f.Minus)) true (starts_fixed f.Minus (level room) (comes (fixed f.Minus)) true (λ line. refl)))
       (λ e ws rest is h. starts_or (rule.bracket room inner used) (Or (rule.literal used) (rule.variable used)) (comes (fixed f.Minus)) false
-          (starts_then _ _ (comes (fixed f.Minus)) false (starts_fixed f.LParen (level room) (comes (fixed f.Minus)) false (λ line. refl)))
-          (starts_or (rule.literal used) (rule.variable used) (comes (fixed f.Minus)) false (literal_shows (comes (fixed f.Minus)) false (λ line. refl) (λ n line. refl)) (variable_shows (comes (fixed f.Minus)) false (λ text line. refl))) e ws rest is)
+      (starts_then _ _ (comes (fixed f.Minus)) false (starts_fixed f.LParen (level room) (comes (fixed f.Minus)) false (λ line. refl)))
+      (starts_or (rule.literal used) (rule.variable used) (comes (fixed f.Minus)) false (literal_shows (comes (fixed f.Minus)) false (λ line. refl) (λ n line. refl)) (variable_shows (comes (fixed f.Minus)) false (λ text line. refl))) e ws rest is)
     where
       literal_shows : (test : Ahead → Bool) (b : Bool) → ((line : ℕ) → seen test lexis.One line ≡ b) → ((n line : ℕ) → seen test (lexis.Number n) line ≡ b) → Starts (rule.literal used) test b
       literal_shows test b one many = starts_then _ _ test b (starts_number (at_most 9223372036854775807 (Limit which.Literal)) test b one many)

@@ -1,6 +1,6 @@
 -- What a lexeme is shows what it is not, and readers of one lexeme are good.
-use Rattle.std.proofs.Common.{◌≡◌, ℕ, Bool, true, false, cond, List, [], ◌∷◌, ◌++◌, Option, Some, None, refl, sym, ap, ◌∙◌, subst, inl, inr, arith}
-use Rattle.std.specs.Prelude.{◌⊎◌, not, is_some, ◌||◌}
+use Rattle.std.proofs.Common.{◌≡◌, ℕ, Bool, true, false, cond, List, ◌++◌, Option, Some, None, refl, sym, ap, ◌∙◌}
+use Rattle.std.specs.Prelude.{is_some}
 use denote.Enum.Bare.{sameb, same_true}
 use Rattle.dl_ir.specs.declared.expressions.Op.{Op}
 use Rattle.dl_ir.specs.declared.expressions.Rel.{Rel}
@@ -12,9 +12,8 @@ use Rattle.dl_grammar.specs.declared.lexeme.Lexis.{Lexis}
 use Rattle.dl_grammar.specs.declared.lexeme.Lexis.TheVariants as lexis
 use Rattle.dl_grammar.specs.declared.lexeme.Lexeme.{Lexeme}
 use Rattle.dl_grammar.specs.declared.fault.Bound.{Bound}
-use Rattle.dl_grammar.specs.Grammar.{Ending, Read, Passed, Rule, One, Nothing, Empty, Then, Both, Cut, Ahead, ahead, Reader, ◌>>=◌, pure, one}
-use Rattle.dl_grammar.specs.Rules.{fixed_in, fixed, name_in, name, number_in, number, adding_in, adding, scaling_in, scaling, relation_in, relation, type_in, type_name, version_in, version, free}
-use Rattle.dl_grammar.specs.Readers.{comes}
+use Rattle.dl_grammar.specs.Grammar.{Ending, Rule, One, Nothing, Empty, Then, Ahead, ahead, Reader, ◌>>=◌, pure, one}
+use Rattle.dl_grammar.specs.Rules.{fixed_in, fixed, name_in, name, number_in, number, adding_in, adding, scaling_in, scaling, relation_in, relation, free}
 use Rattle.dl_grammar.proofs.Good.{tail, Follows, Good, any, good_pure, good_one}
 use Rattle.dl_grammar.proofs.Rules.{Starts, starts_one, good_narrow, good_follow}
 

@@ -1,14 +1,12 @@
 -- The readers of sides, conditions and right sides read the texts of their rules.
-use Rattle.std.proofs.Common.{◌≡◌, ℕ, zero, suc, ◌+◌, Bool, true, false, cond, List, [], ◌∷◌, ◌++◌, Option, Some, None, Result, Ok, Err, refl, sym, ap, ◌∙◌, subst, inl, inr, arith, append_assoc}
-use Rattle.std.specs.Prelude.{◌⊎◌, not, is_some, ◌||◌, ◌&&◌, pos}
-use Rattle.dl_ir.specs.declared.expressions.Rel.{Rel}
+use Rattle.std.proofs.Common.{◌≡◌, ℕ, zero, suc, Bool, true, false, List, [], ◌++◌, refl, sym, ap, ◌∙◌, subst, inl, inr, append_assoc}
+use Rattle.std.specs.Prelude.{not, is_some, ◌&&◌}
 use Rattle.dl_ir.specs.declared.expressions.Rel.TheVariants as rel
 use Rattle.dl_grammar.specs.declared.lexeme.Fixed.{Fixed}
 use Rattle.dl_grammar.specs.declared.lexeme.Fixed.TheVariants as f
-use Rattle.dl_grammar.specs.declared.lexeme.Lexis.{Lexis}
 use Rattle.dl_grammar.specs.declared.lexeme.Lexis.TheVariants as lexis
 use Rattle.dl_grammar.specs.declared.lexeme.Lexeme.{Lexeme}
-use Rattle.dl_grammar.specs.declared.fault.Bound.TheVariants.{Levels, Limit}
+use Rattle.dl_grammar.specs.declared.fault.Bound.TheVariants.{Limit}
 use Rattle.dl_grammar.specs.declared.fault.Which.TheVariants as which
 use Rattle.dl_grammar.specs.declared.tree.Word.{Word}
 use Rattle.dl_grammar.specs.declared.tree.Rhs.{Rhs}
@@ -18,14 +16,14 @@ use Rattle.dl_grammar.specs.declared.tree.Side.TheVariants as side
 use Rattle.dl_grammar.specs.declared.tree.TreeCond.{TreeCond}
 use Rattle.dl_grammar.specs.declared.tree.TreeExpr.{TreeExpr}
 use Rattle.dl_grammar.specs.declared.tree.TreeExpr.TheVariants as e
-use Rattle.dl_grammar.specs.Grammar.{Ending, Read, Passed, Rule, One, Nothing, Empty, Then, Both, Cut, Or, Many, NoMore, OneMore, CutShort, Ahead, ahead, Outcome, Reader, and_then, ◌>>=◌, pure, one, choose, repeat}
+use Rattle.dl_grammar.specs.Grammar.{Ending, Read, Passed, Rule, One, Nothing, Empty, Then, Both, Cut, Or, Many, NoMore, OneMore, CutShort, Ahead, ahead, ◌>>=◌, pure, one, choose}
 use Rattle.dl_grammar.specs.Rules as rule
 use Rattle.dl_grammar.specs.Rules.{fixed, name, number, adding, scaling_in, scaling, one_more, relation_in, relation, free, Counted}
 use Rattle.dl_grammar.specs.Readers as read
 use Rattle.dl_grammar.specs.Readers.{comes}
-use Rattle.dl_grammar.proofs.Good.{answer, tail, Follows, ReadsAt, Good, any, good_pure, good_one}
-use Rattle.dl_grammar.proofs.Rules.{Starts, starts_one, starts_then, starts_or, good_narrow, good_then, good_follow, good_choose, good_as, Chosen, good_branch}
-use Rattle.dl_grammar.proofs.GoodLexemes.{sample, seen, good_fixed, good_word, good_map, good_before, starts_fixed, starts_name, starts_number, starts_relation, starts_scaling, starts_adding}
+use Rattle.dl_grammar.proofs.Good.{tail, Follows, Good, any, good_one}
+use Rattle.dl_grammar.proofs.Rules.{Starts, starts_then, starts_or, good_narrow, good_then, good_follow, good_choose, Chosen, good_branch}
+use Rattle.dl_grammar.proofs.GoodLexemes.{sample, seen, good_word, good_map, good_before, starts_fixed, starts_name, starts_number, starts_relation, starts_scaling, starts_adding}
 use Rattle.dl_grammar.proofs.GoodExpressions.{Shows, ends_sum, ends_term, good_expression, expression_starts, good_term_behind, good_sum_behind, good_factor, behind_term}
 
 -- a name, with any limit
@@ -179,12 +177,12 @@ name_sum room g ws is =
 sum_name_over : (room : ℕ) (inner : ℕ → Rule Counted) (T : Counted → Rule Rhs) (g : Ending Rhs) (ws rest : List Lexeme) → Then (rule.factor_over room inner 0) T g ws → comes name (ahead (ws ++ tail g rest)) ≡ true → Then (rule.variable 0) T g ws
 sum_name_over room inner T g ws rest is named =
     elim (or_to (rule.negation room inner 0) (Or (rule.bracket room inner 0) (Or (rule.literal 0) (rule.variable 0))) T g ws is) [
-      inl n ↦ let no = starts_then _ _ (comes name) false (starts_then _ _ (comes name) false (starts_fixed f.Minus (rule.level room) (comes name) false (λ line. refl))) g ws rest n in absurd (cc)
-    | inr m ↦ elim (or_to (rule.bracket room inner 0) (Or (rule.literal 0) (rule.variable 0)) T g ws m) [
-        inl n ↦ let no = starts_then _ _ (comes name) false (starts_then _ _ (comes name) false (starts_fixed f.LParen (rule.level room) (comes name) false (λ line. refl))) g ws rest n in absurd (cc)
-      | inr k ↦ elim (or_to (rule.literal 0) (rule.variable 0) T g ws k) [
-          inl n ↦ let no = starts_then _ _ (comes name) false (starts_then _ _ (comes name) false (starts_number (rule.at_most 9223372036854775807 (Limit which.Literal)) (comes name) false (λ line. refl) (λ n line. refl))) g ws rest n in absurd (cc)
-        | inr v ↦ v
+      | inl n ↦ let no = starts_then _ _ (comes name) false (starts_then _ _ (comes name) false (starts_fixed f.Minus (rule.level room) (comes name) false (λ line. refl))) g ws rest n in absurd (cc)
+      | inr m ↦ elim (or_to (rule.bracket room inner 0) (Or (rule.literal 0) (rule.variable 0)) T g ws m) [
+        | inl n ↦ let no = starts_then _ _ (comes name) false (starts_then _ _ (comes name) false (starts_fixed f.LParen (rule.level room) (comes name) false (λ line. refl))) g ws rest n in absurd (cc)
+        | inr k ↦ elim (or_to (rule.literal 0) (rule.variable 0) T g ws k) [
+          | inl n ↦ let no = starts_then _ _ (comes name) false (starts_then _ _ (comes name) false (starts_number (rule.at_most 9223372036854775807 (Limit which.Literal)) (comes name) false (λ line. refl) (λ n line. refl))) g ws rest n in absurd (cc)
+          | inr v ↦ v
         ]
       ]
     ]
@@ -206,7 +204,6 @@ NameSide room = Then (One name free) (λ w. Or (FieldFrom w) (SumFrom room w))
 
 field_ends : (o : Ahead) → ends_sum o ≡ true → any o ≡ true
 field_ends o h = refl
-
 
 -- ---- what a repetition begins with
 pub many_shows : {A : Type 0} (N : A → Rule A) (test : Ahead → Bool) (b : Bool) → ((a : A) → Starts (N a) test b) → (end : Ahead → Bool) → ((o : Ahead) → end o ≡ true → test o ≡ b) → (a : A) (e : Ending A) (ws rest : List Lexeme) → Many N a e ws → Follows end e rest → test (ahead (ws ++ tail e rest)) ≡ b
@@ -308,8 +305,8 @@ unfolding read.right_side
 good_right_side room =
     good_choose (comes (fixed f.Null)) (good_narrow (good_map (λ (l : ℕ). rhs.Null) (good_word f.Null refl)) ends_right right_any)
     (good_choose (comes (fixed f.New)) (good_narrow (good_then (good_word f.New refl) (λ l. good_map (λ k. rhs.New k) good_name)) ends_right right_any) (good_field_or_sum room)
-      (starts_then _ _ (comes (fixed f.New)) true (word_starts f.New (comes (fixed f.New)) true (λ line. refl)))
-      (λ g ws rest is h. field_or_sum_starts room f.New new_apart (λ text line. refl) g ws rest is))
+    (starts_then _ _ (comes (fixed f.New)) true (word_starts f.New (comes (fixed f.New)) true (λ line. refl)))
+    (λ g ws rest is h. field_or_sum_starts room f.New new_apart (λ text line. refl) g ws rest is))
     (starts_then _ _ (comes (fixed f.Null)) true (word_starts f.Null (comes (fixed f.Null)) true (λ line. refl)))
     (λ g ws rest is h. starts_or (Then (rule.word f.New) (λ l. Then (One name free) (λ k. Nothing (rhs.New k)))) (FieldOrSum room) (comes (fixed f.Null)) false
-        (starts_then _ _ (comes (fixed f.Null)) false (word_starts f.New (comes (fixed f.Null)) false (λ line. refl))) (field_or_sum_starts room f.Null null_apart (λ text line. refl)) g ws rest is)
+    (starts_then _ _ (comes (fixed f.Null)) false (word_starts f.New (comes (fixed f.Null)) false (λ line. refl))) (field_or_sum_starts room f.Null null_apart (λ text line. refl)) g ws rest is)

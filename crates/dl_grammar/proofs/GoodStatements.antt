@@ -1,32 +1,25 @@
 -- The readers of statements and declarations read the texts of their rules.
-use Rattle.std.proofs.Common.{◌≡◌, ℕ, zero, suc, ◌+◌, Bool, true, false, cond, List, [], ◌∷◌, ◌++◌, length, Option, Some, None, refl, sym, ap, ◌∙◌, subst, inl, inr, arith, append_assoc}
-use Rattle.std.specs.Prelude.{◌⊎◌, not, is_some, ◌||◌, ◌&&◌}
+use Rattle.std.proofs.Common.{◌≡◌, ℕ, zero, suc, Bool, true, false, List, [], ◌∷◌, ◌++◌, Option, Some, None, refl, ap, ◌∙◌}
+use Rattle.std.specs.Prelude.{not, is_some}
 use Rattle.dl_grammar.specs.declared.lexeme.Fixed.{Fixed}
 use Rattle.dl_grammar.specs.declared.lexeme.Fixed.TheVariants as f
 use Rattle.dl_grammar.specs.declared.lexeme.Lexis.{Lexis}
 use Rattle.dl_grammar.specs.declared.lexeme.Lexis.TheVariants as lexis
 use Rattle.dl_grammar.specs.declared.lexeme.Lexeme.{Lexeme}
-use Rattle.dl_grammar.specs.declared.fault.Bound.{Bound}
-use Rattle.dl_grammar.specs.declared.fault.Bound.TheVariants.{Levels, Limit}
-use Rattle.dl_grammar.specs.declared.fault.Which.TheVariants as which
 use Rattle.dl_grammar.specs.declared.tree.Word.{Word}
-use Rattle.dl_grammar.specs.declared.tree.TreeField.{TreeField}
-use Rattle.dl_grammar.specs.declared.tree.TreeKind.{TreeKind}
-use Rattle.dl_grammar.specs.declared.tree.TreeOp.{TreeOp}
 use Rattle.dl_grammar.specs.declared.tree.TreeStmt.{TreeStmt, roll-TreeStmt}
 use Rattle.dl_grammar.specs.declared.tree.What.TheVariants as what
-use Rattle.dl_grammar.specs.declared.tree.TreeExpr.{TreeExpr}
-use Rattle.dl_grammar.specs.Grammar.{Ending, Read, Passed, Rule, One, Nothing, Empty, Then, Both, Cut, Or, Many, Ahead, ahead, Reader, ◌>>=◌, pure, one, choose, repeat}
+use Rattle.dl_grammar.specs.Grammar.{Ending, Rule, One, Nothing, Empty, Then, Or, Ahead, ahead, Reader}
 use Rattle.dl_grammar.specs.Rules as rule
 use Rattle.dl_grammar.specs.Rules.{fixed, name, type_name, number, version, free, level, one_more, at_most, more_roots, Kinds}
 use Rattle.dl_grammar.specs.Readers as read
 use Rattle.dl_grammar.specs.Readers.{comes, starts_statement, starts_kind}
-use Rattle.dl_grammar.proofs.Good.{tail, Follows, Good, any, good_pure, good_one}
-use Rattle.dl_grammar.proofs.Rules.{Starts, starts_one, starts_then, starts_or, good_narrow, good_then, good_follow, good_choose}
+use Rattle.dl_grammar.proofs.Good.{tail, Follows, Good, any, good_pure}
+use Rattle.dl_grammar.proofs.Rules.{Starts, starts_then, starts_or, good_narrow, good_then, good_choose}
 use Rattle.dl_grammar.proofs.Repeats.{good_many}
-use Rattle.dl_grammar.proofs.GoodLexemes.{sample, seen, fixed_is_in, good_fixed, good_word, good_map, good_before, starts_fixed, starts_name, starts_number}
+use Rattle.dl_grammar.proofs.GoodLexemes.{seen, fixed_is_in, good_fixed, good_word, good_map, good_before, starts_fixed, starts_name}
 use Rattle.dl_grammar.proofs.GoodExpressions.{ends_sum, good_expression}
-use Rattle.dl_grammar.proofs.GoodSides.{good_name, good_side, good_condition, good_right_side, ends_right, many_shows}
+use Rattle.dl_grammar.proofs.GoodSides.{good_name, good_side, good_condition, good_right_side, ends_right}
 
 -- a word or symbol behind a text
 word_shows : (g : Fixed) (test : Ahead → Bool) (b : Bool) → ((line : ℕ) → seen test (lexis.Fixed g) line ≡ b) → Starts (rule.word g) test b
@@ -139,13 +132,13 @@ module _ {reader : Reader TreeStmt} {S : Rule TreeStmt} (good : Good reader S no
       good_choose (comes (fixed f.If)) (good_branching room)
       (good_choose (comes (fixed f.While)) (good_narrow (good_loop room) no_else (widens no_else))
       (good_choose (comes (fixed f.Return)) (good_narrow (good_returning room) no_else (widens no_else)) (good_narrow (good_setting room) no_else (widens no_else))
-        (returning_shows room (comes (fixed f.Return)) true (λ line. refl))
-        (λ g ws rest is h. setting_shows room (comes (fixed f.Return)) false (λ text line. refl) g ws rest is))
+      (returning_shows room (comes (fixed f.Return)) true (λ line. refl))
+      (λ g ws rest is h. setting_shows room (comes (fixed f.Return)) false (λ text line. refl) g ws rest is))
       (loop_shows room (comes (fixed f.While)) true (λ line. refl))
       (λ g ws rest is h. starts_or (rule.returning room) (rule.setting room) (comes (fixed f.While)) false (returning_shows room (comes (fixed f.While)) false (λ line. refl)) (setting_shows room (comes (fixed f.While)) false (λ text line. refl)) g ws rest is))
       (starts_then _ _ (comes (fixed f.If)) true (word_shows f.If (comes (fixed f.If)) true (λ line. refl)))
       (λ g ws rest is h. starts_or (rule.loop room S) (Or (rule.returning room) (rule.setting room)) (comes (fixed f.If)) false (loop_shows room (comes (fixed f.If)) false (λ line. refl))
-          (starts_or (rule.returning room) (rule.setting room) (comes (fixed f.If)) false (returning_shows room (comes (fixed f.If)) false (λ line. refl)) (setting_shows room (comes (fixed f.If)) false (λ text line. refl))) g ws rest is)
+      (starts_or (rule.returning room) (rule.setting room) (comes (fixed f.If)) false (returning_shows room (comes (fixed f.If)) false (λ line. refl)) (setting_shows room (comes (fixed f.If)) false (λ text line. refl))) g ws rest is)
 
 over_shows : (room : ℕ) (S : Rule TreeStmt) → StatementStarts (rule.statement_over room S)
 over_shows room S =

@@ -9,3 +9,4 @@ pub mod GoodStatements
 pub mod GoodDeclarations
 pub mod Steps
 pub mod MoreSteps
+pub mod Whole

@@ -1,12 +1,12 @@
 -- Single steps of the readers of declarations, as the code takes them.
-use Rattle.std.proofs.Common.{◌≡◌, ℕ, ◌+◌, ◌<◌, ◌≤◌, Bool, true, false, List, [], ◌∷◌, ◌++◌, length, Option, Some, None, Result, Ok, Err, refl, sym, ap, ◌∙◌, arith}
+use Rattle.std.proofs.Common.{◌≡◌, ℕ, ◌+◌, ◌<◌, true, false, List, [], ◌∷◌, ◌++◌, length, Option, Some, None, Ok, refl, sym, ap, ◌∙◌}
 use Rattle.std.specs.Prelude.{is_some}
 use Rattle.dl_grammar.specs.declared.lexeme.Lexeme.{Lexeme}
 use Rattle.dl_grammar.specs.declared.lexeme.Fixed.TheVariants as f
 use Rattle.dl_grammar.specs.declared.fault.Bound.{Bound}
 use Rattle.dl_grammar.specs.declared.tree.TreeField.{TreeField}
 use Rattle.dl_grammar.specs.declared.tree.TreeOp.{TreeOp}
-use Rattle.dl_grammar.specs.Grammar.{Ahead, ahead, Reader, and_then, ◌>>=◌, pure, valued}
+use Rattle.dl_grammar.specs.Grammar.{ahead, Reader, and_then, ◌>>=◌, pure, valued}
 use Rattle.dl_grammar.specs.Rules.{fixed, free, Kinds}
 use Rattle.dl_grammar.specs.Readers as read
 use Rattle.dl_grammar.specs.Readers.{comes, starts_kind}

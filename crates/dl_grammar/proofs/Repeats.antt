@@ -1,14 +1,11 @@
 -- The law of repetitions.
-use Rattle.std.proofs.Common.{◌≡◌, ℕ, ◌+◌, ◌-◌, ◌≤◌, ◌<◌, Bool, true, false, cond, List, [], ◌∷◌, ◌++◌, length, Option, Some, None, Result, Ok, Err, arith, refl, sym, ap, ◌∙◌, subst, append_assoc, zero, suc, inl, inr, length-append}
-use Rattle.std.specs.Prelude.{◌⊎◌, if◌then◌else◌}
+use Rattle.std.proofs.Common.{◌≡◌, ℕ, ◌≤◌, ◌<◌, Bool, true, false, cond, List, [], ◌∷◌, ◌++◌, length, Some, None, Ok, Err, arith, refl, sym, ap, ◌∙◌, subst, append_assoc, zero, suc, length-append}
 use Rattle.dl_grammar.specs.declared.lexeme.Lexeme.{Lexeme}
-use Rattle.dl_grammar.specs.declared.fault.Fault.{Fault}
-use Rattle.dl_grammar.specs.Grammar.{Ending, Read, Passed, Rule, Nothing, Empty, Then, Both, Cut, Or, Many, NoMore, OneMore, CutShort, Ahead, ahead, Outcome, Reader, and_then, ◌>>=◌, pure, choose, repeat_from, repeat}
-use Rattle.dl_grammar.proofs.Good.{answer, tail, Follows, Stopped, ReadAt, StopAt, ReadsAt, Text, Good, any, ahead-append}
-use Rattle.dl_grammar.proofs.Rules.{Starts, reads_second, reads_first, reads_as, stops_as}
+use Rattle.dl_grammar.specs.Grammar.{Ending, Read, Passed, Rule, Then, Both, Cut, Many, NoMore, OneMore, CutShort, Ahead, ahead, Outcome, Reader, and_then, ◌>>=◌, pure, choose, repeat_from, repeat}
+use Rattle.dl_grammar.proofs.Good.{answer, tail, Follows, ReadAt, ReadsAt, Text, Good, ahead-append}
+use Rattle.dl_grammar.proofs.Rules.{Starts, reads_second, reads_first, stops_as}
 
 module _ {A : Type 0} (test : Ahead → Bool) {step : A → Reader A} {N : A → Rule A} {may : Ahead → Bool} (turns : (a : A) → Good (step a) (N a) may) (starts : (a : A) → Starts (N a) test true) (none : test None ≡ false) where
-
   -- a turn takes a lexeme
   takes : (a b : A) (ws : List Lexeme) → N a (Read b) ws → 0 < length ws
   takes a b [] is = absurd (let h = starts a (Read b) [] [] is in cc)

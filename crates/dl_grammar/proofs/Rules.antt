@@ -1,12 +1,11 @@
 -- The laws of sequences, choices and repetitions.
-use Rattle.std.proofs.Common.{◌≡◌, ℕ, ◌+◌, ◌-◌, ◌≤◌, ◌<◌, Bool, true, false, cond, List, [], ◌∷◌, ◌++◌, length, Option, Some, None, Result, Ok, Err, arith, refl, sym, ap, ◌∙◌, subst, append_assoc, zero, suc, inl, inr, length-append}
-use Rattle.std.specs.Prelude.{◌⊎◌, if◌then◌else◌}
+use Rattle.std.proofs.Common.{◌≡◌, Bool, true, false, cond, List, ◌++◌, Option, Some, Ok, Err, refl, sym, ap, ◌∙◌, subst, append_assoc, inl, inr}
 use Rattle.dl_grammar.specs.declared.lexeme.Lexeme.{Lexeme}
 use Rattle.dl_grammar.specs.declared.fault.Bound.{Bound}
 use Rattle.dl_grammar.specs.declared.fault.Fault.{Fault}
 use Rattle.dl_grammar.specs.declared.fault.Fault.TheVariants as fault
-use Rattle.dl_grammar.specs.Grammar.{Ending, Read, Passed, Rule, One, Within, Beyond, Nothing, Empty, Then, Both, Cut, Or, Many, NoMore, OneMore, CutShort, whole, Ahead, ahead, Outcome, Reader, and_then, ◌>>=◌, pure, checked, valued, one, choose, repeat_from, repeat}
-use Rattle.dl_grammar.proofs.Good.{answer, tail, Follows, Stopped, Unexpected, AtLimit, ReadAt, StopAt, ReadsAt, Text, Good, any, ahead-append, append-nil}
+use Rattle.dl_grammar.specs.Grammar.{Ending, Read, Passed, Rule, One, Within, Beyond, Then, Both, Cut, Or, Ahead, ahead, Outcome, Reader, and_then, ◌>>=◌, choose}
+use Rattle.dl_grammar.proofs.Good.{answer, tail, Follows, Stopped, Unexpected, AtLimit, ReadAt, StopAt, ReadsAt, Text, Good, any, ahead-append}
 
 -- a reader with what may follow it said more narrowly
 pub good_narrow : {A : Type 0} {p : Reader A} {L : Rule A} {may : Ahead → Bool} → Good p L may → (less : Ahead → Bool) → ((o : Ahead) → less o ≡ true → may o ≡ true) → Good p L less
@@ -62,7 +61,6 @@ module _ {A B : Type 0} (p : Reader A) (L : Rule A) (f : A → Reader B) (M : A 
 
 module _ {A B : Type 0} {p : Reader A} {L : Rule A} {may : Ahead → Bool} (first : Good p L may) {f : A → Reader B} {M : A → Rule B} {end : Ahead → Bool} (second : (a : A) → Good (f a) (M a) end)
     (follow : (a : A) (e : Ending B) (ws rest : List Lexeme) → M a e ws → Follows end e rest → may (ahead (ws ++ tail e rest)) ≡ true) where
-
   reads_both : (ts : List Lexeme) (o : Outcome A) → ReadsAt p L ts o → ReadsAt (p >>= f) (Then L M) ts (and_then o f)
   reads_both ts (Ok x) r = reads_second p L f M ts x.0 x.1 r (f x.0 x.1) ((second x.0).reads x.1)
   reads_both ts (Err x) r = reads_first p L f M (λ a. (second a).some) ts x.0 x.1 r
@@ -106,7 +104,6 @@ starts_or L M test b l m e ws rest (inr is) = m e ws rest is
 -- ---- choices
 module _ {A : Type 0} (test : Ahead → Bool) {p q : Reader A} {L M : Rule A} {may : Ahead → Bool} (left : Good p L may) (right : Good q M may) (yes : Starts L test true)
     (no : (e : Ending A) (ws rest : List Lexeme) → M e ws → Follows may e rest → test (ahead (ws ++ tail e rest)) ≡ false) where
-
   chosen : (ts : List Lexeme) (b : Bool) → test (ahead ts) ≡ b → choose test p q ts ≡ cond b (p ts) (q ts)
   chosen ts b h = ap (λ x. cond x (p ts) (q ts)) h
 
@@ -170,7 +167,6 @@ Chosen false X Y = Y
 module _ {A : Type 0} (test : Ahead → Bool) {p q : Reader A} {L M W : Rule A} {may : Ahead → Bool} (left : Good p L may) (right : Good q M may)
     (from_left : (e : Ending A) (ws : List Lexeme) → L e ws → W e ws) (from_right : (e : Ending A) (ws : List Lexeme) → M e ws → W e ws)
     (apart : (e : Ending A) (ws rest : List Lexeme) → W e ws → (b : Bool) → test (ahead (ws ++ tail e rest)) ≡ b → Chosen b (L e ws) (M e ws)) where
-
   picks : (ts : List Lexeme) (b : Bool) → test (ahead ts) ≡ b → choose test p q ts ≡ cond b (p ts) (q ts)
   picks ts b h = ap (λ x. cond x (p ts) (q ts)) h
 

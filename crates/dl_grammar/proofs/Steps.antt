@@ -1,9 +1,8 @@
 -- Single steps of the readers of expressions, as the code takes them.
-use Rattle.std.proofs.Common.{◌≡◌, ℕ, zero, suc, ◌+◌, ◌-◌, ◌<◌, ◌≤◌, Bool, true, false, cond, List, [], ◌∷◌, ◌++◌, length, Option, Some, None, Result, Ok, Err, refl, sym, ap, ◌∙◌, subst, arith}
+use Rattle.std.proofs.Common.{◌≡◌, ℕ, zero, suc, ◌-◌, ◌<◌, true, false, List, [], ◌∷◌, ◌++◌, length, Ok, refl, ap, arith}
 use Rattle.dl_grammar.specs.declared.lexeme.Lexeme.{Lexeme}
-use Rattle.dl_grammar.specs.declared.fault.Fault.{Fault}
 use Rattle.dl_grammar.specs.declared.tree.TreeStmt.{TreeStmt}
-use Rattle.dl_grammar.specs.Grammar.{Ahead, ahead, Outcome, Reader, and_then, ◌>>=◌, pure, repeat, Then, Nothing}
+use Rattle.dl_grammar.specs.Grammar.{ahead, Reader, and_then, ◌>>=◌, pure, Then, Nothing}
 use Rattle.dl_grammar.specs.Rules as rule
 use Rattle.dl_grammar.specs.Rules.{adding, scaling, Counted}
 use Rattle.dl_grammar.specs.Readers as read

@@ -1,5 +1,5 @@
 -- Grammars as relations between values and lists of lexemes, and readers of such lists.
-use Rattle.std.specs.Prelude.{◌≡◌, ℕ, Bool, true, false, if◌then◌else◌, List, [], ◌∷◌, ◌++◌, length, zero, suc, Option, Some, None, Result, Ok, Err, ◌⊎◌}
+use Rattle.std.specs.Prelude.{◌≡◌, ℕ, Bool, if◌then◌else◌, List, [], ◌∷◌, ◌++◌, length, zero, suc, Option, Some, None, Result, Ok, Err, ◌⊎◌}
 use Rattle.dl_grammar.specs.declared.lexeme.Lexeme.{Lexeme}
 use Rattle.dl_grammar.specs.declared.fault.Bound.{Bound}
 use Rattle.dl_grammar.specs.declared.fault.Fault.{Fault}
@@ -64,6 +64,7 @@ StandsAt L fault.Memory before rest = ⊥
 abbrev pub Ahead : Type 0
 Ahead = Option Lexeme
 
+-- the next lexeme of a list
 abbrev pub ahead : List Lexeme → Ahead
 ahead [] = None
 ahead (t ∷ ts) = Some t
@@ -72,24 +73,30 @@ ahead (t ∷ ts) = Some t
 abbrev pub Outcome : Type 0 → Type 0
 Outcome A = Result (A × List Lexeme) (Fault × List Lexeme)
 
+-- a function from lexemes to an outcome
 abbrev pub Reader : Type 0 → Type 0
 Reader A = List Lexeme → Outcome A
 
+-- what is made of the value and of what is left, if there is a value
 abbrev pub and_then : {A B : Type 0} → Outcome A → (A → Reader B) → Outcome B
 and_then (Ok x) f = f x.0 x.1
 and_then (Err e) f = Err e
 
+-- reads by the first, and then by what its value says
 infixl 10 ◌>>=◌
 abbrev pub ◌>>=◌ : {A B : Type 0} → Reader A → (A → Reader B) → Reader B
 (p >>= f) ts = and_then (p ts) f
 
+-- takes nothing, and answers the value
 abbrev pub pure : {A : Type 0} → A → Reader A
 pure a ts = Ok (a, ts)
 
+-- the value of a lexeme that was tested for a limit
 abbrev pub checked : {A : Type 0} → A → Option Bound → Lexeme → List Lexeme → Outcome A
 checked a None t rest = Ok (a, rest)
 checked a (Some b) t rest = Err (fault.Passed b, t ∷ rest)
 
+-- the value of a lexeme, if it has one
 abbrev pub valued : {A : Type 0} → (A → Option Bound) → Option A → Lexeme → List Lexeme → Outcome A
 valued limit None t rest = Err (fault.Expected, t ∷ rest)
 valued limit (Some a) t rest = checked a (limit a) t rest
@@ -108,6 +115,7 @@ abbrev pub repeat_from : {A : Type 0} → (Ahead → Bool) → (A → Reader A) 
 repeat_from test step zero a ts = Ok (a, ts)
 repeat_from test step (suc n) a ts = if test (ahead ts) then and_then (step a ts) (repeat_from test step n) else Ok (a, ts)
 
+-- the same, as often as there are lexemes, since each turn takes one
 unfoldable pub repeat : {A : Type 0} → (Ahead → Bool) → (A → Reader A) → A → Reader A
 repeat test step a ts = repeat_from test step (length ts) a ts
 
@@ -116,6 +124,7 @@ abbrev pub nothing_left : {A : Type 0} → A → List Lexeme → Result A (Fault
 nothing_left a [] = Ok a
 nothing_left a (t ∷ rest) = Err (fault.Expected, t ∷ rest)
 
+-- what a reader makes of a whole text
 abbrev pub finish : {A : Type 0} → Outcome A → Result A (Fault × List Lexeme)
 finish (Ok x) = nothing_left x.0 x.1
 finish (Err e) = Err e

@@ -1,15 +1,14 @@
 -- How module texts are read: for each rule of the grammar what its reader does, token by token.
-use Rattle.std.specs.Prelude.{◌≡◌, ℕ, zero, suc, ◌+◌, ◌-◌, Bool, true, false, not, ◌||◌, is_some, if◌then◌else◌, List, [], ◌∷◌, ◌++◌, length, Option, Some, None, pos}
+use Rattle.std.specs.Prelude.{ℕ, zero, suc, ◌+◌, Bool, true, false, ◌||◌, is_some, List, [], ◌∷◌, ◌++◌, length, Option, Some, None, pos}
 use Rattle.dl_ir.specs.declared.expressions.Op.{Op}
 use Rattle.dl_grammar.specs.declared.lexeme.Fixed.{Fixed}
 use Rattle.dl_grammar.specs.declared.lexeme.Fixed.TheVariants as f
 use Rattle.dl_grammar.specs.declared.lexeme.Lexeme.{Lexeme}
 use Rattle.dl_grammar.specs.declared.fault.Bound.{Bound}
-use Rattle.dl_grammar.specs.declared.fault.Bound.TheVariants.{Levels, Limit}
+use Rattle.dl_grammar.specs.declared.fault.Bound.TheVariants.{Limit}
 use Rattle.dl_grammar.specs.declared.fault.Which.TheVariants as which
 use Rattle.dl_grammar.specs.declared.tree.Word.{Word}
 use Rattle.dl_grammar.specs.declared.tree.TreeField.{TreeField}
-use Rattle.dl_grammar.specs.declared.tree.TreeKind.{TreeKind}
 use Rattle.dl_grammar.specs.declared.tree.TreeOp.{TreeOp}
 use Rattle.dl_grammar.specs.declared.tree.TreeStmt.{TreeStmt, roll-TreeStmt}
 use Rattle.dl_grammar.specs.declared.tree.What.TheVariants as what
@@ -21,7 +20,6 @@ use Rattle.dl_grammar.specs.declared.tree.TreeCond.{TreeCond}
 use Rattle.dl_grammar.specs.declared.tree.TreeExpr.{TreeExpr}
 use Rattle.dl_grammar.specs.declared.tree.TreeExpr.TheVariants as e
 use Rattle.dl_grammar.specs.Grammar.{Ahead, Reader, ◌>>=◌, pure, one, choose, repeat}
-use Rattle.dl_grammar.specs.Rules as rule
 use Rattle.dl_grammar.specs.Rules.{fixed, name, type_name, number, version, adding, scaling, relation, free, level, one_more, at_most, more_roots, Counted, Kinds}
 use Rattle.dl_grammar.specs.declared.declarations.Declared.{Declared}
 
@@ -30,6 +28,7 @@ abbrev pub comes : {A : Type 0} → (Lexeme → Option A) → Ahead → Bool
 comes value None = false
 comes value (Some t) = is_some (value t)
 
+-- a reserved word or a symbol
 abbrev pub word : Fixed → Reader ℕ
 word g = one (fixed g) free
 
@@ -44,12 +43,14 @@ variable used = one name free >>= λ w. pure (e.Name w, used)
 unfoldable pub operation : (Lexeme → Option Op) → (ℕ → Reader Counted) → Counted → Reader Counted
 operation operator right left = one operator (one_more 256 left.1 (Limit which.Operators)) >>= λ o. right (left.1 + 1) >>= λ x. pure (e.Bin o left.0 x.0, x.1)
 
+-- what follows the first factor of a term
 unfoldable pub term_behind : (ℕ → Reader Counted) → Counted → Reader Counted
 term_behind factor = repeat (comes scaling) (operation scaling factor)
 
 unfoldable pub term : (ℕ → Reader Counted) → ℕ → Reader Counted
 term factor used = factor used >>= term_behind factor
 
+-- what follows the first term of a sum
 unfoldable pub sum_behind : (ℕ → Reader Counted) → Counted → Reader Counted
 sum_behind factor = repeat (comes adding) (operation adding (term factor))
 
@@ -85,9 +86,11 @@ condition room = side_of room >>= λ a. one relation free >>= λ r. side_of room
 unfoldable pub sum_from : ℕ → Word → Reader Rhs
 sum_from room w = term_behind (factor room) (e.Name w, 0) >>= λ t. sum_behind (factor room) t >>= λ x. pure (rhs.Sum x.0)
 
+-- a followed field, whose local has been read
 unfoldable pub followed_from : Word → Reader Rhs
 followed_from p = word f.Dot >>= λ l. one name free >>= λ g. pure (rhs.Field p g)
 
+-- a right side that begins with a name
 unfoldable pub named_side : ℕ → Reader Rhs
 named_side room = one name free >>= λ w. choose (comes (fixed f.Dot)) (followed_from w) (sum_from room w)
 
@@ -96,9 +99,11 @@ right_side room =
     choose (comes (fixed f.Null)) (word f.Null >>= λ l. pure rhs.Null) (choose (comes (fixed f.New)) (word f.New >>= λ l. one name free >>= λ k. pure (rhs.New k))
     (choose (comes name) (named_side room) (expression room >>= λ x. pure (rhs.Sum x))))
 
+-- a local is set, behind its name
 unfoldable pub assignment : ℕ → Word → Reader TreeStmt
 assignment room x = word f.Assign >>= λ l. right_side room >>= λ r. word f.Semicolon >>= λ m. pure (roll-TreeStmt (record { line = x.line; what = what.Assign x r }))
 
+-- a field is set, behind the name of the local
 unfoldable pub store : ℕ → Word → Reader TreeStmt
 store room x = word f.Dot >>= λ l. one name free >>= λ g. word f.Assign >>= λ m. side_of room >>= λ r. word f.Semicolon >>= λ n. pure (roll-TreeStmt (record { line = x.line; what = what.Store x g r }))
 
@@ -112,6 +117,7 @@ returning room = word f.Return >>= λ l. expression room >>= λ x. word f.Semico
 abbrev pub starts_statement : Ahead → Bool
 starts_statement o = comes (fixed f.If) o || comes (fixed f.While) o || comes (fixed f.Return) o || comes name o
 
+-- statements behind others
 unfoldable pub statements_from : Reader TreeStmt → List TreeStmt → Reader (List TreeStmt)
 statements_from statement = repeat starts_statement (λ before. statement >>= λ s. pure (before ++ s ∷ []))
 
@@ -144,6 +150,7 @@ statement (suc room) = statement_over (suc room) (statement room)
 unfoldable pub field : ℕ → Bound → ℕ → Reader TreeField
 field most bound stand = one name (one_more most stand bound) >>= λ w. word f.Colon >>= λ l. one type_name free >>= λ t. pure (record { name = w; ty = t })
 
+-- fields behind others, each with a comma before it
 unfoldable pub fields_more : ℕ → Bound → ℕ → List TreeField → Reader (List TreeField)
 fields_more most bound stand = repeat (comes (fixed f.Comma)) (λ before. word f.Comma >>= λ l. field most bound (stand + length before) >>= λ x. pure (before ++ x ∷ []))
 
@@ -156,7 +163,7 @@ fields = word f.LBrace >>= λ l. choose (comes name) (fields_behind 16 (Limit wh
 unfoldable pub root_kind : Kinds → Reader Kinds
 root_kind before =
     word f.Root >>= λ l. one name (one_more 16 (length before.0) (Limit which.Kinds)) >>= λ w. one number (more_roots before.1) >>= λ n. fields >>= λ all.
-        pure (before.0 ++ record { name = w; is_root = true; count = n; fields = all } ∷ [], before.1 + n)
+    pure (before.0 ++ record { name = w; is_root = true; count = n; fields = all } ∷ [], before.1 + n)
 
 unfoldable pub node_kind : Kinds → Reader Kinds
 node_kind before =
@@ -169,6 +176,7 @@ kind before = choose (comes (fixed f.Root)) (root_kind before) (node_kind before
 abbrev pub starts_kind : Ahead → Bool
 starts_kind o = comes (fixed f.Root) o || comes (fixed f.Node) o
 
+-- kinds behind others
 unfoldable pub kinds_from : Kinds → Reader Kinds
 kinds_from = repeat starts_kind kind
 
@@ -181,7 +189,7 @@ vars params = choose (comes (fixed f.Var)) (word f.Var >>= λ l. fields_behind 3
 unfoldable pub body : Word → List TreeField → ℕ → ℕ → Reader TreeOp
 body w params allocs fuel =
     word f.LBrace >>= λ l. vars (length params) >>= λ locals. statements (statement 32) >>= λ stmts. word f.RBrace >>= λ m.
-        pure (record { name = w; params = params; vars = locals; allocs = allocs; fuel = fuel; body = stmts })
+    pure (record { name = w; params = params; vars = locals; allocs = allocs; fuel = fuel; body = stmts })
 
 unfoldable pub quotas : Reader (ℕ × ℕ)
 quotas = word f.Allocs >>= λ l. one number (at_most 64 (Limit which.Allocs)) >>= λ a. word f.Fuel >>= λ m. one number (at_most 1000000 (Limit which.Fuel)) >>= λ n. pure (a, n)
@@ -189,8 +197,9 @@ quotas = word f.Allocs >>= λ l. one number (at_most 64 (Limit which.Allocs)) >>
 unfoldable pub op_behind : List TreeOp → Reader (List TreeOp)
 op_behind before =
     word f.Op >>= λ l. one name (one_more 64 (length before) (Limit which.Ops)) >>= λ w. word f.LParen >>= λ m. fields_behind 32 (Limit which.Locals) 0 >>= λ params. word f.RParen >>= λ n.
-        quotas >>= λ q. body w params q.0 q.1 >>= λ o. pure (before ++ o ∷ [])
+    quotas >>= λ q. body w params q.0 q.1 >>= λ o. pure (before ++ o ∷ [])
 
+-- operations behind others
 unfoldable pub ops_from : List TreeOp → Reader (List TreeOp)
 ops_from = repeat (comes (fixed f.Op)) op_behind
 

@@ -1,5 +1,5 @@
 -- The grammar of module texts, with its limits.
-use Rattle.std.specs.Prelude.{◌≡◌, ℕ, zero, suc, ◌+◌, ◌-◌, Bool, true, false, ◌==◌, nat_le, nat_lt, if◌then◌else◌, List, [], ◌∷◌, ◌++◌, length, Option, Some, None, pos, codes}
+use Rattle.std.specs.Prelude.{ℕ, zero, suc, ◌+◌, Bool, true, false, ◌==◌, nat_le, nat_lt, if◌then◌else◌, List, [], ◌∷◌, ◌++◌, length, Option, Some, None, pos, codes}
 use denote.Enum.Bare.{sameb}
 use Rattle.dl_ir.specs.declared.expressions.Op.{Op}
 use Rattle.dl_ir.specs.declared.expressions.Op.TheVariants as op
@@ -42,6 +42,7 @@ fixed_in g (lexis.Number n) line = None
 abbrev pub fixed : Fixed → Lexeme → Option ℕ
 fixed g t = fixed_in g t.lexis t.line
 
+-- a name with its line
 abbrev pub name_in : Lexis → ℕ → Option Word
 name_in (lexis.Name text) line = Some (record { text = text; line = line })
 name_in (lexis.Fixed h) line = None
@@ -52,6 +53,7 @@ name_in (lexis.Number n) line = None
 abbrev pub name : Lexeme → Option Word
 name t = name_in t.lexis t.line
 
+-- a name or the word int, with its line
 abbrev pub type_in : Lexis → ℕ → Option Word
 type_in (lexis.Name text) line = Some (record { text = text; line = line })
 type_in (lexis.Fixed f.Int) line = Some (record { text = codes "int"; line = line })
@@ -63,6 +65,7 @@ type_in (lexis.Number n) line = None
 abbrev pub type_name : Lexeme → Option Word
 type_name t = type_in t.lexis t.line
 
+-- the value of a number
 abbrev pub number_in : Lexis → Option ℕ
 number_in lexis.One = Some 1
 number_in (lexis.Number n) = Some n
@@ -73,6 +76,7 @@ number_in (lexis.Name text) = None
 abbrev pub number : Lexeme → Option ℕ
 number t = number_in t.lexis
 
+-- 1, where the text of the number is 1
 abbrev pub version_in : Lexis → Option ℕ
 version_in lexis.One = Some 1
 version_in (lexis.Number n) = None
@@ -83,6 +87,7 @@ version_in (lexis.Name text) = None
 abbrev pub version : Lexeme → Option ℕ
 version t = version_in t.lexis
 
+-- + and -
 abbrev pub adding_in : Lexis → Option Op
 adding_in (lexis.Fixed f.Plus) = Some op.Add
 adding_in (lexis.Fixed f.Minus) = Some op.Sub
@@ -95,6 +100,7 @@ adding_in (lexis.Name text) = None
 abbrev pub adding : Lexeme → Option Op
 adding t = adding_in t.lexis
 
+-- * / and %
 abbrev pub scaling_in : Lexis → Option Op
 scaling_in (lexis.Fixed f.Star) = Some op.Mul
 scaling_in (lexis.Fixed f.Slash) = Some op.Div
@@ -108,6 +114,7 @@ scaling_in (lexis.Name text) = None
 abbrev pub scaling : Lexeme → Option Op
 scaling t = scaling_in t.lexis
 
+-- < <= == and !=
 abbrev pub relation_in : Lexis → Option Rel
 relation_in (lexis.Fixed f.Less) = Some rel.Less
 relation_in (lexis.Fixed f.LessEq) = Some rel.LessEq

@@ -1,5 +1,5 @@
 -- Which bytes spell which module, and the first fault of the others.
-use Rattle.std.specs.Prelude.{◌≡◌, ◌≢◌, ℕ, Bool, true, false, if◌then◌else◌, List, [], ◌∷◌, ◌++◌, length, map, slice_range, codes, Option, Some, None, Result, Ok, Err, MatchResult}
+use Rattle.std.specs.Prelude.{◌≡◌, ℕ, Bool, if◌then◌else◌, List, [], ◌∷◌, ◌++◌, map, slice_range, codes, Option, Some, None, Result, Ok, Err}
 use Rattle.std.specs.Str.{bytes_eq}
 use Rattle.dl_text.specs.declared.token.Token.{Token}
 use Rattle.dl_text.specs.declared.token.TokenKind.{TokenKind}
@@ -12,7 +12,6 @@ use Rattle.dl_grammar.specs.declared.lexeme.Fixed.TheVariants as f
 use Rattle.dl_grammar.specs.declared.lexeme.Lexis.{Lexis}
 use Rattle.dl_grammar.specs.declared.lexeme.Lexis.TheVariants as lexis
 use Rattle.dl_grammar.specs.declared.lexeme.Lexeme.{Lexeme}
-use Rattle.dl_grammar.specs.declared.fault.Bound.{Bound}
 use Rattle.dl_grammar.specs.declared.fault.Bound.TheVariants.{Levels, Limit}
 use Rattle.dl_grammar.specs.declared.fault.Fault.{Fault}
 use Rattle.dl_grammar.specs.declared.fault.Fault.TheVariants as fault
@@ -68,6 +67,7 @@ symbol bytes =
     else (if is_text bytes (codes "==") then f.Equal
     else f.NotEqual))))))))))))))))
 
+-- a word that is reserved, or a name
 abbrev pub word_lexis : List ℕ → Option Fixed → Lexis
 word_lexis bytes (Some g) = lexis.Fixed g
 word_lexis bytes None = lexis.Name bytes

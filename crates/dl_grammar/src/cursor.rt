@@ -22,7 +22,13 @@ impl Cursor<'_> {
         ensures { result ≡ comes (rule.fixed fixed) (ahead self.now.rest.now) }
     {
         match self.rest {
-            [Lexeme { lexis: Lexis::Fixed(found), .. }, ..] => fixed == *found,
+            [
+                Lexeme {
+                    lexis: Lexis::Fixed(found),
+                    ..
+                },
+                ..
+            ] => fixed == *found,
             _ => false,
         }
     }
@@ -30,13 +36,31 @@ impl Cursor<'_> {
     pub(crate) fn at_name(&self) -> bool
         ensures { result ≡ comes rule.name (ahead self.now.rest.now) }
     {
-        matches!(self.rest, [Lexeme { lexis: Lexis::Name(_), .. }, ..])
+        matches!(
+            self.rest,
+            [
+                Lexeme {
+                    lexis: Lexis::Name(_),
+                    ..
+                },
+                ..
+            ]
+        )
     }
 
     pub(crate) fn at_number(&self) -> bool
         ensures { result ≡ comes rule.number (ahead self.now.rest.now) }
     {
-        matches!(self.rest, [Lexeme { lexis: Lexis::One | Lexis::Number(_), .. }, ..])
+        matches!(
+            self.rest,
+            [
+                Lexeme {
+                    lexis: Lexis::One | Lexis::Number(_),
+                    ..
+                },
+                ..
+            ]
+        )
     }
 
     pub(crate) fn at_statement(&self) -> bool
@@ -55,7 +79,13 @@ impl Cursor<'_> {
         ensures { Gives (one (rule.fixed fixed) rule.free self.old.rest.now) result self.new.rest.now }
     {
         match self.rest {
-            [Lexeme { lexis: Lexis::Fixed(found), line }, rest @ ..] if fixed == *found => {
+            [
+                Lexeme {
+                    lexis: Lexis::Fixed(found),
+                    line,
+                },
+                rest @ ..,
+            ] if fixed == *found => {
                 self.rest = rest;
                 Ok(*line)
             }
@@ -69,7 +99,13 @@ impl Cursor<'_> {
         ensures room { OnOk result (0 < room) }
     {
         match self.rest {
-            [Lexeme { lexis: Lexis::Fixed(found), line }, rest @ ..] if fixed == *found => {
+            [
+                Lexeme {
+                    lexis: Lexis::Fixed(found),
+                    line,
+                },
+                rest @ ..,
+            ] if fixed == *found => {
                 if room == 0 {
                     return Err(Fault::Passed(Bound::Levels));
                 }
@@ -84,7 +120,13 @@ impl Cursor<'_> {
         ensures { Gives (one rule.name rule.free self.old.rest.now) result self.new.rest.now }
     {
         match self.rest {
-            [Lexeme { lexis: Lexis::Name(text), line }, rest @ ..] => {
+            [
+                Lexeme {
+                    lexis: Lexis::Name(text),
+                    line,
+                },
+                rest @ ..,
+            ] => {
                 let text = Items::from_slice(alloc, text.as_slice())?;
                 self.rest = rest;
                 Ok(Word { text, line: *line })
@@ -107,8 +149,20 @@ impl Cursor<'_> {
         ensures most { IfOk result (λ n. n ≤ most) }
     {
         let (number, rest) = match self.rest {
-            [Lexeme { lexis: Lexis::One, .. }, rest @ ..] => (1, rest),
-            [Lexeme { lexis: Lexis::Number(number), .. }, rest @ ..] => (*number, rest),
+            [
+                Lexeme {
+                    lexis: Lexis::One,
+                    ..
+                },
+                rest @ ..,
+            ] => (1, rest),
+            [
+                Lexeme {
+                    lexis: Lexis::Number(number),
+                    ..
+                },
+                rest @ ..,
+            ] => (*number, rest),
             _ => return Err(Fault::Expected),
         };
         if most < number {
@@ -121,7 +175,16 @@ impl Cursor<'_> {
     pub(crate) fn at_adding(&self) -> bool
         ensures { result ≡ comes rule.adding (ahead self.now.rest.now) }
     {
-        matches!(self.rest, [Lexeme { lexis: Lexis::Fixed(Fixed::Plus | Fixed::Minus), .. }, ..])
+        matches!(
+            self.rest,
+            [
+                Lexeme {
+                    lexis: Lexis::Fixed(Fixed::Plus | Fixed::Minus),
+                    ..
+                },
+                ..
+            ]
+        )
     }
 
     pub(crate) fn at_scaling(&self) -> bool
@@ -129,7 +192,13 @@ impl Cursor<'_> {
     {
         matches!(
             self.rest,
-            [Lexeme { lexis: Lexis::Fixed(Fixed::Star | Fixed::Slash | Fixed::Percent), .. }, ..]
+            [
+                Lexeme {
+                    lexis: Lexis::Fixed(Fixed::Star | Fixed::Slash | Fixed::Percent),
+                    ..
+                },
+                ..
+            ]
         )
     }
 
@@ -139,8 +208,20 @@ impl Cursor<'_> {
         ensures few { OnOk result (operators < 256) }
     {
         let (op, rest) = match self.rest {
-            [Lexeme { lexis: Lexis::Fixed(Fixed::Plus), .. }, rest @ ..] => (Op::Add, rest),
-            [Lexeme { lexis: Lexis::Fixed(Fixed::Minus), .. }, rest @ ..] => (Op::Sub, rest),
+            [
+                Lexeme {
+                    lexis: Lexis::Fixed(Fixed::Plus),
+                    ..
+                },
+                rest @ ..,
+            ] => (Op::Add, rest),
+            [
+                Lexeme {
+                    lexis: Lexis::Fixed(Fixed::Minus),
+                    ..
+                },
+                rest @ ..,
+            ] => (Op::Sub, rest),
             _ => return Err(Fault::Expected),
         };
         if 256 <= operators {
@@ -156,9 +237,27 @@ impl Cursor<'_> {
         ensures few { OnOk result (operators < 256) }
     {
         let (op, rest) = match self.rest {
-            [Lexeme { lexis: Lexis::Fixed(Fixed::Star), .. }, rest @ ..] => (Op::Mul, rest),
-            [Lexeme { lexis: Lexis::Fixed(Fixed::Slash), .. }, rest @ ..] => (Op::Div, rest),
-            [Lexeme { lexis: Lexis::Fixed(Fixed::Percent), .. }, rest @ ..] => (Op::Rem, rest),
+            [
+                Lexeme {
+                    lexis: Lexis::Fixed(Fixed::Star),
+                    ..
+                },
+                rest @ ..,
+            ] => (Op::Mul, rest),
+            [
+                Lexeme {
+                    lexis: Lexis::Fixed(Fixed::Slash),
+                    ..
+                },
+                rest @ ..,
+            ] => (Op::Div, rest),
+            [
+                Lexeme {
+                    lexis: Lexis::Fixed(Fixed::Percent),
+                    ..
+                },
+                rest @ ..,
+            ] => (Op::Rem, rest),
             _ => return Err(Fault::Expected),
         };
         if 256 <= operators {
@@ -172,10 +271,34 @@ impl Cursor<'_> {
         ensures { Gives (one rule.relation rule.free self.old.rest.now) result self.new.rest.now }
     {
         let (rel, rest) = match self.rest {
-            [Lexeme { lexis: Lexis::Fixed(Fixed::Less), .. }, rest @ ..] => (Rel::Less, rest),
-            [Lexeme { lexis: Lexis::Fixed(Fixed::LessEq), .. }, rest @ ..] => (Rel::LessEq, rest),
-            [Lexeme { lexis: Lexis::Fixed(Fixed::Equal), .. }, rest @ ..] => (Rel::Equal, rest),
-            [Lexeme { lexis: Lexis::Fixed(Fixed::NotEqual), .. }, rest @ ..] => (Rel::NotEqual, rest),
+            [
+                Lexeme {
+                    lexis: Lexis::Fixed(Fixed::Less),
+                    ..
+                },
+                rest @ ..,
+            ] => (Rel::Less, rest),
+            [
+                Lexeme {
+                    lexis: Lexis::Fixed(Fixed::LessEq),
+                    ..
+                },
+                rest @ ..,
+            ] => (Rel::LessEq, rest),
+            [
+                Lexeme {
+                    lexis: Lexis::Fixed(Fixed::Equal),
+                    ..
+                },
+                rest @ ..,
+            ] => (Rel::Equal, rest),
+            [
+                Lexeme {
+                    lexis: Lexis::Fixed(Fixed::NotEqual),
+                    ..
+                },
+                rest @ ..,
+            ] => (Rel::NotEqual, rest),
             _ => return Err(Fault::Expected),
         };
         self.rest = rest;
@@ -187,7 +310,13 @@ impl Cursor<'_> {
         ensures { Gives (one rule.version rule.free self.old.rest.now) result self.new.rest.now }
     {
         match self.rest {
-            [Lexeme { lexis: Lexis::One, .. }, rest @ ..] => {
+            [
+                Lexeme {
+                    lexis: Lexis::One,
+                    ..
+                },
+                rest @ ..,
+            ] => {
                 self.rest = rest;
                 Ok(1)
             }
@@ -200,12 +329,24 @@ impl Cursor<'_> {
         ensures { Gives (one rule.type_name rule.free self.old.rest.now) result self.new.rest.now }
     {
         match self.rest {
-            [Lexeme { lexis: Lexis::Name(text), line }, rest @ ..] => {
+            [
+                Lexeme {
+                    lexis: Lexis::Name(text),
+                    line,
+                },
+                rest @ ..,
+            ] => {
                 let text = Items::from_slice(alloc, text.as_slice())?;
                 self.rest = rest;
                 Ok(Word { text, line: *line })
             }
-            [Lexeme { lexis: Lexis::Fixed(Fixed::Int), line }, rest @ ..] => {
+            [
+                Lexeme {
+                    lexis: Lexis::Fixed(Fixed::Int),
+                    line,
+                },
+                rest @ ..,
+            ] => {
                 let text = Items::from_slice(alloc, b"int")?;
                 self.rest = rest;
                 Ok(Word { text, line: *line })
@@ -215,12 +356,24 @@ impl Cursor<'_> {
     }
 
     /// A name that is declared behind `stand` others, of which there may be `most`.
-    pub(crate) fn declared(&mut self, alloc: Global, most: usize, stand: usize, bound: Bound) -> Result<Word, Fault>
+    pub(crate) fn declared(
+        &mut self,
+        alloc: Global,
+        most: usize,
+        stand: usize,
+        bound: Bound,
+    ) -> Result<Word, Fault>
         ensures reads { Gives (one rule.name (rule.one_more most stand bound) self.old.rest.now) result self.new.rest.now }
         ensures fewer { OnOk result (stand < most) }
     {
         match self.rest {
-            [Lexeme { lexis: Lexis::Name(text), line }, rest @ ..] => {
+            [
+                Lexeme {
+                    lexis: Lexis::Name(text),
+                    line,
+                },
+                rest @ ..,
+            ] => {
                 if most <= stand {
                     return Err(Fault::Passed(bound));
                 }
@@ -239,8 +392,20 @@ impl Cursor<'_> {
         ensures most { IfOk result (λ n. roots + n ≤ 1024) }
     {
         let (number, rest) = match self.rest {
-            [Lexeme { lexis: Lexis::One, .. }, rest @ ..] => (1, rest),
-            [Lexeme { lexis: Lexis::Number(number), .. }, rest @ ..] => (*number, rest),
+            [
+                Lexeme {
+                    lexis: Lexis::One,
+                    ..
+                },
+                rest @ ..,
+            ] => (1, rest),
+            [
+                Lexeme {
+                    lexis: Lexis::Number(number),
+                    ..
+                },
+                rest @ ..,
+            ] => (*number, rest),
             _ => return Err(Fault::Expected),
         };
         if number == 0 || number > (1024 - roots) as u64 {

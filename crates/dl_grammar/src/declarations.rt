@@ -23,7 +23,13 @@ pub(crate) type Kinds = (Items<TreeKind>, u32);
 impl Cursor<'_> {
     /// A field, a parameter or a var, behind `stand` others.
     #[tactic(auto, unfolding(crate::specs::Readers::field))]
-    fn field(&mut self, alloc: Global, most: usize, bound: Bound, stand: usize) -> Result<TreeField, Fault>
+    fn field(
+        &mut self,
+        alloc: Global,
+        most: usize,
+        bound: Bound,
+        stand: usize,
+    ) -> Result<TreeField, Fault>
         ensures reads { Gives (read.field most bound stand self.old.rest.now) result self.new.rest.now }
         ensures fewer { OnOk result (stand < most) }
     {
@@ -35,7 +41,13 @@ impl Cursor<'_> {
 
     /// Fields with commas between, behind `stand` others.
     #[tactic(auto, using(crate::proofs::MoreSteps::fields_steps), unfolding(crate::specs::Readers::fields_behind))]
-    fn fields_behind(&mut self, alloc: Global, most: usize, bound: Bound, stand: usize) -> Result<Items<TreeField>, Fault>
+    fn fields_behind(
+        &mut self,
+        alloc: Global,
+        most: usize,
+        bound: Bound,
+        stand: usize,
+    ) -> Result<Items<TreeField>, Fault>
         requires { most ≤ 64 }
         ensures { Gives (read.fields_behind most bound stand self.old.rest.now) result self.new.rest.now }
     {
@@ -75,7 +87,12 @@ impl Cursor<'_> {
         let name = self.declared(alloc, 16, kinds.len(), Bound::Limit(Which::Kinds))?;
         let count = self.roots(roots)?;
         let fields = self.fields(alloc)?;
-        kinds.push(TreeKind { name, is_root: true, count, fields })?;
+        kinds.push(TreeKind {
+            name,
+            is_root: true,
+            count,
+            fields,
+        })?;
         Ok((kinds, roots + count))
     }
 
@@ -89,7 +106,12 @@ impl Cursor<'_> {
         let _line = self.word(Fixed::Node)?;
         let name = self.declared(alloc, 16, kinds.len(), Bound::Limit(Which::Kinds))?;
         let fields = self.fields(alloc)?;
-        kinds.push(TreeKind { name, is_root: false, count: 0, fields })?;
+        kinds.push(TreeKind {
+            name,
+            is_root: false,
+            count: 0,
+            fields,
+        })?;
         Ok((kinds, roots))
     }
 
@@ -144,7 +166,13 @@ impl Cursor<'_> {
 
     /// The body of an operation, behind its heading.
     #[tactic(auto, unfolding(crate::specs::Readers::body))]
-    fn body(&mut self, alloc: Global, name: Word, params: Items<TreeField>, quotas: (u32, u32)) -> Result<TreeOp, Fault>
+    fn body(
+        &mut self,
+        alloc: Global,
+        name: Word,
+        params: Items<TreeField>,
+        quotas: (u32, u32),
+    ) -> Result<TreeOp, Fault>
         ensures { Gives (read.body name params quotas.0 quotas.1 self.old.rest.now) result self.new.rest.now }
     {
         let (allocs, fuel) = quotas;
@@ -152,7 +180,14 @@ impl Cursor<'_> {
         let vars = self.vars(alloc, params.len())?;
         let body = self.statements(alloc, 32)?;
         let _right = self.word(Fixed::RBrace)?;
-        Ok(TreeOp { name, params, vars, allocs, fuel, body })
+        Ok(TreeOp {
+            name,
+            params,
+            vars,
+            allocs,
+            fuel,
+            body,
+        })
     }
 
     #[tactic(auto, unfolding(crate::specs::Readers::op_behind))]
@@ -191,6 +226,10 @@ impl Cursor<'_> {
         let version = self.version()?;
         let (kinds, _roots) = self.kinds(alloc)?;
         let ops = self.ops(alloc)?;
-        Ok(Declared { version, kinds, ops })
+        Ok(Declared {
+            version,
+            kinds,
+            ops,
+        })
     }
 }

@@ -33,7 +33,12 @@ impl Cursor<'_> {
     /// A factor, in which so many more levels may open.
     #[cycle(expression)]
     #[tactic(auto, using(crate::proofs::Steps::expression_steps), unfolding(crate::specs::Readers::factor_over))]
-    pub(crate) fn factor(&mut self, alloc: Global, room: u32, operators: u32) -> Result<Counted, Fault>
+    pub(crate) fn factor(
+        &mut self,
+        alloc: Global,
+        room: u32,
+        operators: u32,
+    ) -> Result<Counted, Fault>
         ensures { Gives (read.factor room operators self.old.rest.now) result self.new.rest.now }
     {
         if self.at(Fixed::Minus) {
@@ -84,7 +89,12 @@ impl Cursor<'_> {
     /// What follows the first factor of a term.
     #[cycle(expression)]
     #[tactic(auto, using(crate::proofs::Steps::term_steps))]
-    pub(crate) fn term_behind(&mut self, alloc: Global, room: u32, first: Counted) -> Result<Counted, Fault>
+    pub(crate) fn term_behind(
+        &mut self,
+        alloc: Global,
+        room: u32,
+        first: Counted,
+    ) -> Result<Counted, Fault>
         ensures { Gives (read.term_behind (read.factor room) first self.old.rest.now) result self.new.rest.now }
     {
         let mut left = first;
@@ -119,7 +129,12 @@ impl Cursor<'_> {
     /// What follows the first term of a sum.
     #[cycle(expression)]
     #[tactic(auto, using(crate::proofs::Steps::sum_steps))]
-    pub(crate) fn sum_behind(&mut self, alloc: Global, room: u32, first: Counted) -> Result<Counted, Fault>
+    pub(crate) fn sum_behind(
+        &mut self,
+        alloc: Global,
+        room: u32,
+        first: Counted,
+    ) -> Result<Counted, Fault>
         ensures { Gives (read.sum_behind (read.factor room) first self.old.rest.now) result self.new.rest.now }
     {
         let mut left = first;

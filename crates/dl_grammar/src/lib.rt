@@ -1,4 +1,5 @@
-//! The module language: its trees, and the reader of module texts.
+//! The module language: its grammar with its limits, its trees, and the reader of module texts, which accepts what the
+//! grammar spells and nothing else, and else names the first fault. `docs/LANGUAGE.md` tells the grammar.
 #![tactic(auto)]
 
 mod cursor;
@@ -9,8 +10,13 @@ mod lexeme;
 mod module;
 mod sides;
 mod statements;
+#[cfg(test)]
+mod tests;
 mod tree;
 
 pub use fault::{SyntaxFault, Which};
 pub use module::{one_module, read_module};
-pub use tree::{Rhs, Side, Tree, TreeBlock, TreeCond, TreeExpr, TreeField, TreeKind, TreeOp, TreeStmt, What, Word};
+pub use tree::{
+    Rhs, Side, Tree, TreeBlock, TreeCond, TreeExpr, TreeField, TreeKind, TreeOp, TreeStmt, What,
+    Word,
+};

@@ -1,4 +1,4 @@
-ghost use Rattle.std.specs.Prelude.{◌≡◌, ◌≢◌, ℕ, ◌≤◌, length, IfOk, IfErr, MatchResult, List};
+ghost use Rattle.std.specs.Prelude.{◌≡◌, ◌≢◌, ℕ, ◌≤◌, length, IfOk, IfErr, MatchResult, List, slice_range};
 ghost use Rattle.dl_text.specs.Text.{InOrder};
 ghost use Rattle.dl_grammar.specs.Grammar.{finish};
 ghost use Rattle.dl_grammar.specs.Readers as read;
@@ -64,8 +64,17 @@ fn read_lexemes(alloc: Global, all: &[Lexeme]) -> Result<Tree, SyntaxFault>
     if let [lexeme, ..] = cursor.rest {
         return Err(SyntaxFault::Expected { line: lexeme.line });
     }
-    let Declared { version, kinds, ops } = declared;
-    Ok(Tree { version, kinds, ops, last: last_line(all) })
+    let Declared {
+        version,
+        kinds,
+        ops,
+    } = declared;
+    Ok(Tree {
+        version,
+        kinds,
+        ops,
+        last: last_line(all),
+    })
 }
 
 /// The reserved word that a word is.
@@ -174,6 +183,15 @@ fn lexis_of(alloc: Global, kind: TokenKind, bytes: &[u8]) -> Result<Lexis, Alloc
     }
 }
 
+/// The bytes of a token.
+fn text_of<'a>(bytes: &'a [u8], token: &Token) -> &'a [u8]
+    requires ordered { token.now.at ≤ token.now.end }
+    requires within { token.now.end ≤ length bytes.now }
+    ensures { result.now ≡ slice_range bytes.now token.now.at token.now.end }
+{
+    &bytes[token.at..token.end]
+}
+
 /// The tokens of a text as the grammar sees them.
 fn lexemes(alloc: Global, bytes: &[u8], tokens: &[Token]) -> Result<Items<Lexeme>, AllocError>
     requires { InOrder 0 (length bytes.now) tokens.now }
@@ -182,8 +200,11 @@ fn lexemes(alloc: Global, bytes: &[u8], tokens: &[Token]) -> Result<Items<Lexeme
     let mut found: Items<Lexeme> = Items::new(alloc);
     let mut rest = tokens;
     'tokens: while let [token, more @ ..] = rest {
-        let lexis = lexis_of(alloc, token.kind, &bytes[token.at..token.end])?;
-        found.push(Lexeme { lexis, line: token.line })?;
+        let lexis = lexis_of(alloc, token.kind, text_of(bytes, token))?;
+        found.push(Lexeme {
+            lexis,
+            line: token.line,
+        })?;
         rest = more;
     }
     Ok(found)
@@ -227,5 +248,4 @@ pub fn one_module()
     ensures tree { (bytes : List ℕ) (a b : TreeOf) → Spells bytes a → Spells bytes b → a ≡ b }
     ensures fault { (bytes : List ℕ) (e f : FaultOf) → IsSyntaxFault bytes e → IsSyntaxFault bytes f → e ≡ f }
     ensures either { (bytes : List ℕ) (tree : TreeOf) (f : FaultOf) → Spells bytes tree → ¬ IsSyntaxFault bytes f }
-{
-}
+{}

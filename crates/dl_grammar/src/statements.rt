@@ -18,7 +18,10 @@ impl Cursor<'_> {
         let rhs = self.right_side(alloc, room)?;
         let _end = self.word(Fixed::Semicolon)?;
         let line = x.line;
-        Ok(TreeStmt { line, what: What::Assign { x, rhs } })
+        Ok(TreeStmt {
+            line,
+            what: What::Assign { x, rhs },
+        })
     }
 
     #[tactic(auto, unfolding(crate::specs::Readers::store))]
@@ -31,7 +34,10 @@ impl Cursor<'_> {
         let rhs = self.side(alloc, room)?;
         let _end = self.word(Fixed::Semicolon)?;
         let line = p.line;
-        Ok(TreeStmt { line, what: What::Store { p, f, rhs } })
+        Ok(TreeStmt {
+            line,
+            what: What::Store { p, f, rhs },
+        })
     }
 
     #[tactic(auto, unfolding(crate::specs::Readers::setting))]
@@ -53,7 +59,10 @@ impl Cursor<'_> {
         let line = self.word(Fixed::Return)?;
         let e = self.expression(alloc, room)?;
         let _end = self.word(Fixed::Semicolon)?;
-        Ok(TreeStmt { line, what: What::Return { e } })
+        Ok(TreeStmt {
+            line,
+            what: What::Return { e },
+        })
     }
 
     /// A statement, in which so many more levels may open.
@@ -84,7 +93,10 @@ impl Cursor<'_> {
         let _right = self.word(Fixed::RParen)?;
         let yes = self.block(alloc, room)?;
         let no = self.otherwise(alloc, room)?;
-        Ok(TreeStmt { line, what: What::If { c, yes, no } })
+        Ok(TreeStmt {
+            line,
+            what: What::If { c, yes, no },
+        })
     }
 
     #[cycle(statement)]
@@ -109,7 +121,10 @@ impl Cursor<'_> {
         let c = self.condition(alloc, room)?;
         let _right = self.word(Fixed::RParen)?;
         let body = self.block(alloc, room)?;
-        Ok(TreeStmt { line, what: What::While { c, body } })
+        Ok(TreeStmt {
+            line,
+            what: What::While { c, body },
+        })
     }
 
     #[cycle(statement)]

@@ -1,4 +1,4 @@
-use Rattle.std.proofs.Common.{◌≡◌, ◌+◌, ◌≤◌, length, length-append, arith, ap, sym, ◌∙◌, ◌∷◌, []}
+use Rattle.std.proofs.Common.{◌+◌, length, length-append, arith, ap, sym, ◌∙◌, ◌∷◌, []}
 use Rattle.dl_grammar.specs.Readers as read
 use Rattle.dl_grammar.proofs.MoreSteps.{fields_shrink, fields_next}
 use Rattle.dl_grammar.proofs.cursor.Cursor.fields_behind.Goals as goal

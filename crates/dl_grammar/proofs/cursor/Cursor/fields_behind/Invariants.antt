@@ -1,5 +1,4 @@
 use Rattle.std.proofs.Common.{◌≡◌, ◌+◌, ◌≤◌, length}
-use Rattle.dl_grammar.specs.Grammar.{and_then}
 use Rattle.dl_grammar.specs.Readers as read
 use Rattle.dl_grammar.proofs.cursor.Cursor.fields_behind.Given as goal
 
