@@ -1,0 +1,6 @@
+pub mod Checks
+pub mod Declarations
+pub mod Limits
+pub mod Names
+pub mod Statements
+pub mod Typing
