@@ -1,4 +1,3 @@
-pub mod Built
 pub mod WordCuts
 pub mod Numbers
 pub mod CallSteps

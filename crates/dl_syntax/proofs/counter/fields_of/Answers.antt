@@ -1,6 +1,0 @@
-use Rattle.std.proofs.Common.{refl}
-use Rattle.dl_syntax.proofs.Built.{built_more}
-use Rattle.dl_syntax.proofs.counter.fields_of.Goals as goal
-
-pub loop-tree-preserved : goal.loop-tree-preserved
-loop-tree-preserved c = built_more c.loop-tree.invariant refl c.in_ok-push.ensures.ok
