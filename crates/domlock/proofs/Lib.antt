@@ -1,1 +1,7 @@
+mod EndLemmas
+mod FileLemmas
+mod LoadingLemmas
 mod ReadingLemmas
+mod RunLemmas
+mod WordLemmas
+mod WritingEnds

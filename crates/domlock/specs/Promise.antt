@@ -1,4 +1,4 @@
-use Rattle.std.specs.Prelude.{◌≡◌, ℕ, List, [], Option, Some, None}
+use Rattle.std.specs.Prelude.{◌≡◌, ℕ, List, [], Some, None}
 use Rattle.dl_io.specs.Source.{Source}
 use Rattle.dl_io.specs.Taken.{Taken, Took}
 use Rattle.dl_ir.specs.declared.modules.Module.{Module}
@@ -7,8 +7,8 @@ use Rattle.dl_ir.specs.declared.answers.Entry.{Entry}
 use Rattle.dl_ir.specs.declared.answers.Refusal.{Refusal}
 use Rattle.dl_ir.specs.Cover.{Covers}
 use Rattle.dl_ir.specs.Heap.{start_objects}
-use Rattle.dl_shape.specs.Replay.{IsLegal, replayed}
 use Rattle.dl_shape.specs.Pool.{IsLawfulPool}
+use Rattle.dl_shape.specs.Replay.{IsLegal, replayed}
 use Rattle.dl_history.specs.Report.{report}
 use Rattle.domlock.specs.declared.status.Status.{Status}
 use Rattle.domlock.specs.declared.status.Status.TheVariants as statuses

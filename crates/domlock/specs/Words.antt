@@ -1,4 +1,4 @@
-use Rattle.std.specs.Prelude.{ℕ, ◌==◌, List, [], ◌∷◌, map, Option, Some, None, codes, bytes_eq, slice_get, if◌then◌else◌}
+use Rattle.std.specs.Prelude.{ℕ, ◌==◌, List, [], ◌∷◌, map, string_bytes, Option, Some, None, codes, bytes_eq, slice_get, if◌then◌else◌}
 use Rattle.domlock.specs.declared.words.Command.{Command}
 use Rattle.domlock.specs.declared.words.Verb.{Verb}
 use Rattle.domlock.specs.declared.words.Verb.TheVariants as verbs

@@ -1,13 +1,16 @@
-ghost use Rattle.std.specs.Prelude.{◌≡◌, ◌+◌, ◌<◌, ◌≤◌, ◌^◌, ℕ, Some, map, IfOk, IfErr, OnOk, length, string_bytes};
+ghost use Rattle.std.specs.Prelude.{◌≡◌, ◌<◌, ◌≤◌, map, All, IfOk, IfErr, OnOk, length, string_bytes};
 ghost use Rattle.dl_ir.specs.CallForms.{AreCallsOf};
 ghost use Rattle.dl_ir.specs.Heap.{HasStart};
 ghost use Rattle.domlock.specs.Causes.{NoModule, NoCalls, Refuses};
 ghost use Rattle.domlock.specs.Reading.{AfterReading, IsWithin};
-ghost use Rattle.domlock.specs.Texts.{IsModuleText, IsModuleFault, IsModuleFile, IsFile, AreFiles, IsOpsFault, Spells};
-ghost use Rattle.domlock.specs.Loading.{ParseCause, CallsCause};
+ghost use Rattle.domlock.specs.Texts.{IsModuleText, IsModuleFile, IsFile, AreFiles, Spells};
+ghost use Rattle.domlock.specs.Words.{task_of};
+ghost use Rattle.dl_syntax.specs.Calls.{IsCallsFile};
+ghost use Rattle.domlock.specs.Loading.{ParseCause, CallsCause, OpsCause, StopsAt};
 
 use crate::reading::read_file;
 use crate::status::{ModuleWhy, OpsWhy, Status};
+use crate::words::Command;
 use dl_io::Files;
 use dl_ir::{Calls, Module};
 use dl_syntax::{CallsFault, SyntaxFault, TypeFault, check, read_calls, read_module};
@@ -27,6 +30,8 @@ fn not_yet() -> Status
 fn parse_module(alloc: Global, text: &[u8]) -> Result<Module, Status>
     requires { length text.now ≤ 262144 }
     ensures ok { IfOk result (IsModuleText text.now) }
+    ensures start { IfOk result HasStart }
+    ensures few_ops { IfOk result (λ source. length source.ops ≤ 64) }
     ensures cause { IfErr result (ParseCause text.now) }
 {
     let tree = match read_module(alloc, text) {
@@ -46,13 +51,156 @@ fn status_of(file: u32, fault: CallsFault) -> Status
     ensures { CallsCause file fault result }
 {
     match fault {
-        CallsFault::NotAscii { line } => Status::OpsFault { file, line, why: OpsWhy::NotAscii },
-        CallsFault::BadByte { line } => Status::OpsFault { file, line, why: OpsWhy::BadByte },
-        CallsFault::TooMany { line } => Status::OpsFault { file, line, why: OpsWhy::TooMany },
-        CallsFault::NoOp { line } => Status::OpsFault { file, line, why: OpsWhy::NoOp },
-        CallsFault::ArgCount { line } => Status::OpsFault { file, line, why: OpsWhy::ArgCount },
-        CallsFault::NotNumber { line } => Status::OpsFault { file, line, why: OpsWhy::NotNumber },
-        CallsFault::NoRoot { line } => Status::OpsFault { file, line, why: OpsWhy::NoRoot },
+        CallsFault::NotAscii { line } => Status::OpsFault {
+            file,
+            line,
+            why: OpsWhy::NotAscii,
+        },
+        CallsFault::BadByte { line } => Status::OpsFault {
+            file,
+            line,
+            why: OpsWhy::BadByte,
+        },
+        CallsFault::TooMany { line } => Status::OpsFault {
+            file,
+            line,
+            why: OpsWhy::TooMany,
+        },
+        CallsFault::NoOp { line } => Status::OpsFault {
+            file,
+            line,
+            why: OpsWhy::NoOp,
+        },
+        CallsFault::ArgCount { line } => Status::OpsFault {
+            file,
+            line,
+            why: OpsWhy::ArgCount,
+        },
+        CallsFault::NotNumber { line } => Status::OpsFault {
+            file,
+            line,
+            why: OpsWhy::NotNumber,
+        },
+        CallsFault::NoRoot { line } => Status::OpsFault {
+            file,
+            line,
+            why: OpsWhy::NoRoot,
+        },
         CallsFault::Memory => Status::Memory,
+    }
+}
+
+// The calls of an operation file with this number.
+fn parse_calls(alloc: Global, source: &Module, file: u32, text: &[u8]) -> Result<Calls, Status>
+    requires few_ops { length source.now.ops ≤ 64 }
+    requires short { length text.now ≤ 4194304 }
+    ensures ok { IfOk result (IsCallsFile source.now text.now) }
+    ensures calls { IfOk result (AreCallsOf source.now) }
+    ensures cause { IfErr result (OpsCause source.now text.now file) }
+{
+    match read_calls(alloc, text, source) {
+        Ok(calls) => Ok(calls),
+        Err(fault) => Err(status_of(file, fault)),
+    }
+}
+
+// Reads the module of a command.
+fn read_source<F: Files>(alloc: Global, files: &mut F, path: &str) -> Result<Module, Status>
+    ensures ok { IfOk result (IsModuleFile (F.source files.old) path.now) }
+    ensures start { IfOk result HasStart }
+    ensures few_ops { IfOk result (λ source. length source.ops ≤ 64) }
+    ensures within { OnOk result (IsWithin (F.source files.new)) }
+    ensures cause { IfErr result (NoModule path.now (F.source files.old) (F.source files.new)) }
+    ensures after { AfterReading (F.source files.old) (F.source files.new) }
+{
+    let text = match read_file(alloc, files, 0, path) {
+        Ok(text) => text,
+        Err(status) => return Err(status),
+    };
+    parse_module(alloc, &text)
+}
+
+// Reads an operation file of a command.
+fn read_calls_file<F: Files>(
+    alloc: Global,
+    files: &mut F,
+    source: &Module,
+    file: u32,
+    path: &str,
+) -> Result<Calls, Status>
+    requires few_ops { length source.now.ops ≤ 64 }
+    requires number { 0 < file }
+    ensures ok { IfOk result (IsFile source.now (F.source files.old) path.now) }
+    ensures calls { IfOk result (AreCallsOf source.now) }
+    ensures within { OnOk result (IsWithin (F.source files.new)) }
+    ensures cause { IfErr result (NoCalls source.now file path.now (F.source files.old) (F.source files.new)) }
+    ensures after { AfterReading (F.source files.old) (F.source files.new) }
+{
+    let text = match read_file(alloc, files, file, path) {
+        Ok(text) => text,
+        Err(status) => return Err(status),
+    };
+    parse_calls(alloc, source, file, &text)
+}
+
+// Reads the operation files of a command, which are the files from 1 on.
+fn read_all_calls<F: Files>(
+    alloc: Global,
+    files: &mut F,
+    source: &Module,
+    paths: &[String],
+) -> Result<Vec<Calls>, Status>
+    requires few_ops { length source.now.ops ≤ 64 }
+    requires few { length paths.now ≤ 64 }
+    requires within { IsWithin (F.source files.old) }
+    ensures ok { IfOk result (λ all. AreFiles source.now (F.source files.old) (map string_bytes paths.now) all.items) }
+    ensures calls { IfOk result (λ all. All (AreCallsOf source.now) all.items) }
+    ensures within { OnOk result (IsWithin (F.source files.new)) }
+    ensures cause { IfErr result (StopsAt source.now (map string_bytes paths.now) (F.source files.old) (F.source files.new)) }
+    ensures after { AfterReading (F.source files.old) (F.source files.new) }
+{
+    let mut all = Vec::new(alloc);
+    'paths: for (i, path) in paths.iter().enumerate() {
+        match read_calls_file(alloc, files, source, i as u32 + 1, path.as_str()) {
+            Ok(calls) => {
+                match all.push(calls) {
+                    Ok(()) => {}
+                    Err(_) => return Err(Status::Memory),
+                }
+            }
+            Err(status) => return Err(status),
+        }
+    }
+    Ok(all)
+}
+
+/// What the files of a command say: its module, and the calls of each operation file.
+#[derive(Drop)]
+pub struct Input {
+    pub source: Module,
+    pub all: Vec<Calls>,
+}
+
+/// Reads the files of a command, the module first.
+pub fn read_input<F: Files>(
+    alloc: Global,
+    files: &mut F,
+    command: &Command<'_>,
+) -> Result<Input, Status>
+    requires { length command.now.rest.now ≤ 64 }
+    ensures spells { IfOk result (λ input. Spells (F.source files.old) (task_of command.now) input.source input.all.items) }
+    ensures start { IfOk result (λ input. HasStart input.source) }
+    ensures calls { IfOk result (λ input. All (AreCallsOf input.source) input.all.items) }
+    ensures within { OnOk result (IsWithin (F.source files.new)) }
+    ensures cause { IfErr result (Refuses (task_of command.now) (F.source files.old) (F.source files.new)) }
+    ensures after { AfterReading (F.source files.old) (F.source files.new) }
+{
+    let source = match read_source(alloc, files, command.first) {
+        Ok(source) => source,
+        Err(status) => return Err(status),
+    };
+    match read_all_calls(alloc, files, &source, command.rest) {
+        Ok(all) => Ok(Input { source, all }),
+        Err(status) => Err(status),
     }
 }

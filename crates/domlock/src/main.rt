@@ -1,9 +1,46 @@
-//! Runs operation files of a module over a heap and prints a report.
+//! Runs operation files of a module over a heap and prints a report. `docs/LANGUAGE.md` tells the files, and
+//! `docs/FORMATS.md` what is printed.
 #![tactic(auto)]
 
 mod loading;
 mod reading;
+mod run;
 mod status;
+#[cfg(test)]
+mod tests;
+mod top;
 mod words;
 
-fn main() {}
+use dl_io::{RealFiles, RealSink};
+use dl_text::Out;
+use status::{Status, exit_code, status_line};
+use std::io;
+use std::process::ExitCode;
+use top::domlock_still;
+use words::Words;
+
+// The words behind the program's name.
+fn read_words(rt: &HostRuntime) -> Result<Words, io::Error> {
+    let mut items = Vec::new(rt.alloc());
+    for (i, word) in std::env::args(rt)?.enumerate() {
+        if i > 0 {
+            items.push(word)?;
+        }
+    }
+    Ok(Words::new(items))
+}
+
+fn main(rt: HostRuntime) -> ExitCode {
+    let status = match read_words(&rt) {
+        Ok(words) => {
+            let mut files = RealFiles::new(&rt);
+            let mut sink = RealSink::new(rt.stdout());
+            domlock_still(rt.alloc(), &words, &mut files, &mut sink).status
+        }
+        Err(_) => Status::Memory,
+    };
+    let mut out = Out::new();
+    let mut errors = RealSink::new(rt.stderr());
+    let _ = status_line(&status, &mut out, &mut errors);
+    ExitCode::from(exit_code(&status))
+}

@@ -1,3 +1,5 @@
+ghost use Rattle.std.specs.Prelude.{◌≤◌};
+
 use crate::status::{Status, exit_code, status_line};
 use crate::top::{Outcome, domlock_still};
 use crate::words::Words;
@@ -6,9 +8,11 @@ use dl_text::Out;
 use std::alloc::Global;
 use std::test::Fail;
 
-const COUNTER: &[u8] = b"domlock 1\nroot CELL 2 { val: int }\nop add(r: CELL, n: int) allocs 0 fuel 0 {\n  var v: int;\n  v = r.val;\n  v = v + n;\n  r.val = v;\n  return v;\n}\n";
+const COUNTER: &[u8] =
+    b"domlock 1\nroot CELL 2 { val: int }\nop add(r: CELL, n: int) allocs 0 fuel 0 {\n  var v: int;\n  v = r.val;\n  v = v + n;\n  r.val = v;\n  return v;\n}\n";
 
-const TWICE: &[u8] = b"domlock report 1\nanswers 2\n1.1 ok 5\n1.2 ok 12\nhistory 2\n1 1.1 add 0 5\n2 1.2 add 0 7\npool 0\nheap 2 kept 0\n0.0 CELL val=12\n0.1 CELL val=0\nend\n";
+const TWICE: &[u8] =
+    b"domlock report 1\nanswers 2\n1.1 ok 5\n1.2 ok 12\nhistory 2\n1 1.1 add 0 5\n2 1.2 add 0 7\npool 0\nheap 2 kept 0\n0.0 CELL val=12\n0.1 CELL val=0\nend\n";
 
 // The words, each one behind a space.
 fn words_of(alloc: Global, line: &str) -> Result<Words, Fail> {
@@ -45,7 +49,13 @@ fn line_of(alloc: Global, status: &Status) -> Result<MemSink, Fail> {
 #[test]
 fn serial_adds_twice(rt: HostRuntime) -> Result<(), Fail> {
     let mut sink = MemSink::new(rt.alloc(), 1000, &[], 1000)?;
-    let outcome = call(rt.alloc(), "serial m o", COUNTER, b"add 0 5\nadd 0 7\n", &mut sink)?;
+    let outcome = call(
+        rt.alloc(),
+        "serial m o",
+        COUNTER,
+        b"add 0 5\nadd 0 7\n",
+        &mut sink,
+    )?;
     assert_eq!(rt; outcome.status, Status::Done);
     assert_eq!(rt; sink.bytes(), TWICE);
     assert_eq!(rt; outcome.history.entries.len(), 2);
@@ -55,7 +65,8 @@ fn serial_adds_twice(rt: HostRuntime) -> Result<(), Fail> {
 
 #[test]
 fn serial_of_no_operation(rt: HostRuntime) -> Result<(), Fail> {
-    let want: &[u8] = b"domlock report 1\nanswers 0\nhistory 0\npool 0\nheap 2 kept 0\n0.0 CELL val=0\n0.1 CELL val=0\nend\n";
+    let want: &[u8] =
+        b"domlock report 1\nanswers 0\nhistory 0\npool 0\nheap 2 kept 0\n0.0 CELL val=0\n0.1 CELL val=0\nend\n";
     let mut sink = MemSink::new(rt.alloc(), 1000, &[], 1000)?;
     let outcome = call(rt.alloc(), "serial m o", COUNTER, b"", &mut sink)?;
     assert_eq!(rt; outcome.status, Status::Done);
@@ -65,7 +76,8 @@ fn serial_of_no_operation(rt: HostRuntime) -> Result<(), Fail> {
 
 #[test]
 fn serial_overflows(rt: HostRuntime) -> Result<(), Fail> {
-    let want: &[u8] = b"domlock report 1\nanswers 2\n1.1 ok 9223372036854775807\n1.2 overflow\nhistory 2\n1 1.1 add 0 9223372036854775807\n2 1.2 add 0 1\npool 0\nheap 2 kept 0\n0.0 CELL val=9223372036854775807\n0.1 CELL val=0\nend\n";
+    let want: &[u8] =
+        b"domlock report 1\nanswers 2\n1.1 ok 9223372036854775807\n1.2 overflow\nhistory 2\n1 1.1 add 0 9223372036854775807\n2 1.2 add 0 1\npool 0\nheap 2 kept 0\n0.0 CELL val=9223372036854775807\n0.1 CELL val=0\nend\n";
     let mut sink = MemSink::new(rt.alloc(), 1000, &[], 1000)?;
     let ops = b"add 0 9223372036854775807\nadd 0 1\n";
     let outcome = call(rt.alloc(), "serial m o", COUNTER, ops, &mut sink)?;
@@ -77,15 +89,69 @@ fn serial_overflows(rt: HostRuntime) -> Result<(), Fail> {
 #[test]
 fn each_refusal_has_its_line_and_code(rt: HostRuntime) -> Result<(), Fail> {
     let table: [(&str, &[u8], &[u8], &[u8], u8); 9] = [
-        ("serial m", COUNTER, b"", b"domlock: usage: domlock COMMAND FIRST [REST..] [--places N]\n", 1),
-        ("walk m o", COUNTER, b"", b"domlock: usage: domlock COMMAND FIRST [REST..] [--places N]\n", 1),
-        ("serial x o", COUNTER, b"", b"domlock: read fault in file 0\n", 2),
-        ("serial m x", COUNTER, b"", b"domlock: read fault in file 1\n", 2),
-        ("serial m o", b"domlock 1\n", b"", b"domlock: module line 0: NotYet\n", 4),
-        ("serial m o", COUNTER, b"# no\npush 0 1\n", b"domlock: file 1 line 2: NoOp\n", 5),
-        ("serial m o", COUNTER, b"add 0\n", b"domlock: file 1 line 1: ArgCount\n", 5),
-        ("serial m o", COUNTER, b"add 0 x\n", b"domlock: file 1 line 1: NotNumber\n", 5),
-        ("serial m o", COUNTER, b"add 9 1\n", b"domlock: file 1 line 1: NoRoot\n", 5),
+        (
+            "serial m",
+            COUNTER,
+            b"",
+            b"domlock: usage: domlock COMMAND FIRST [REST..] [--places N]\n",
+            1,
+        ),
+        (
+            "walk m o",
+            COUNTER,
+            b"",
+            b"domlock: usage: domlock COMMAND FIRST [REST..] [--places N]\n",
+            1,
+        ),
+        (
+            "serial x o",
+            COUNTER,
+            b"",
+            b"domlock: read fault in file 0\n",
+            2,
+        ),
+        (
+            "serial m x",
+            COUNTER,
+            b"",
+            b"domlock: read fault in file 1\n",
+            2,
+        ),
+        (
+            "serial m o",
+            b"domlock 1\n",
+            b"",
+            b"domlock: module line 0: NotYet\n",
+            4,
+        ),
+        (
+            "serial m o",
+            COUNTER,
+            b"# no\npush 0 1\n",
+            b"domlock: file 1 line 2: NoOp\n",
+            5,
+        ),
+        (
+            "serial m o",
+            COUNTER,
+            b"add 0\n",
+            b"domlock: file 1 line 1: ArgCount\n",
+            5,
+        ),
+        (
+            "serial m o",
+            COUNTER,
+            b"add 0 x\n",
+            b"domlock: file 1 line 1: NotNumber\n",
+            5,
+        ),
+        (
+            "serial m o",
+            COUNTER,
+            b"add 9 1\n",
+            b"domlock: file 1 line 1: NoRoot\n",
+            5,
+        ),
     ];
     for (line, module, ops, want, code) in table {
         let mut sink = MemSink::new(rt.alloc(), 1000, &[], 1000)?;
@@ -98,9 +164,15 @@ fn each_refusal_has_its_line_and_code(rt: HostRuntime) -> Result<(), Fail> {
 }
 
 #[test]
-fn a_module_one_byte_too_long(rt: HostRuntime) -> Result<(), Fail> {
-    let module = vec![in rt.alloc(); b' '; 262_145]?;
+fn a_module_at_its_limit_and_one_byte_longer(rt: HostRuntime) -> Result<(), Fail> {
+    let mut module = Vec::from_slice(rt.alloc(), COUNTER)?;
+    for _ in COUNTER.len()..262_144 {
+        module.push(b' ')?;
+    }
     let mut sink = MemSink::new(rt.alloc(), 1000, &[], 1000)?;
+    let outcome = call(rt.alloc(), "serial m o", &module, b"", &mut sink)?;
+    assert_eq!(rt; outcome.status, Status::Done);
+    module.push(b' ')?;
     let outcome = call(rt.alloc(), "serial m o", &module, b"", &mut sink)?;
     assert_eq!(rt; outcome.status, Status::TooLong { file: 0 });
     assert_eq!(rt; exit_code(&outcome.status), 3);
@@ -110,7 +182,13 @@ fn a_module_one_byte_too_long(rt: HostRuntime) -> Result<(), Fail> {
 #[test]
 fn a_sink_that_fails_keeps_the_history(rt: HostRuntime) -> Result<(), Fail> {
     let mut sink = MemSink::new(rt.alloc(), 10, &[3], 1000)?;
-    let outcome = call(rt.alloc(), "serial m o", COUNTER, b"add 0 5\nadd 0 7\n", &mut sink)?;
+    let outcome = call(
+        rt.alloc(),
+        "serial m o",
+        COUNTER,
+        b"add 0 5\nadd 0 7\n",
+        &mut sink,
+    )?;
     assert_eq!(rt; outcome.status, Status::WriteFault);
     assert_eq!(rt; exit_code(&outcome.status), 6);
     assert_eq!(rt; sink.bytes(), b"domlock report 1\nans".as_slice());
@@ -118,15 +196,26 @@ fn a_sink_that_fails_keeps_the_history(rt: HostRuntime) -> Result<(), Fail> {
     Ok(())
 }
 
-#[test]
-fn a_read_that_fails_is_of_its_file(rt: HostRuntime) -> Result<(), Fail> {
-    let words = words_of(rt.alloc(), "serial m o")?;
-    let mut files = MemFiles::new(rt.alloc(), 1000, &[5])?;
+// What the call on a counter module and one operation answers where the call of files with this number fails.
+fn status_at_fault(alloc: Global, piece: usize, fails: &[u64]) -> Result<Status, Fail>
+    requires { 1 ≤ piece }
+{
+    let words = words_of(alloc, "serial m o")?;
+    let mut files = MemFiles::new(alloc, piece, fails)?;
     files.add("m", COUNTER)?;
     files.add("o", b"add 0 5\n")?;
-    let mut sink = MemSink::new(rt.alloc(), 1000, &[], 1000)?;
-    let outcome = domlock_still(rt.alloc(), &words, &mut files, &mut sink);
-    assert_eq!(rt; outcome.status, Status::ReadFault { file: 1 });
-    assert_eq!(rt; sink.bytes(), b"".as_slice());
+    let mut sink = MemSink::new(alloc, 1000, &[], 1000)?;
+    Ok(domlock_still(alloc, &words, &mut files, &mut sink).status)
+}
+
+#[test]
+fn a_call_that_fails_is_of_its_file(rt: HostRuntime) -> Result<(), Fail> {
+    // Attaching, a piece and the end of file 0, and then of file 1.
+    for (at, file) in [(1, 0), (2, 0), (3, 0), (4, 1), (5, 1), (6, 1)] {
+        let status = status_at_fault(rt.alloc(), 1000, &[at])?;
+        assert_eq!(rt; status, Status::ReadFault { file }, "at call {at}");
+    }
+    assert_eq!(rt; status_at_fault(rt.alloc(), 1000, &[7])?, Status::Done);
+    assert_eq!(rt; status_at_fault(rt.alloc(), 1, &[])?, Status::Done);
     Ok(())
 }

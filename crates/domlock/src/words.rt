@@ -1,4 +1,4 @@
-ghost use Rattle.std.specs.Prelude.{◌≡◌, map, option_map, string_bytes};
+ghost use Rattle.std.specs.Prelude.{◌≡◌, map, option_map, string_bytes, IfSome, length};
 ghost use Rattle.domlock.specs.Words.{task_of, task_of_words};
 
 use std::marker::Model;
@@ -50,13 +50,15 @@ pub struct Command<'a> {
 
 /// Reads the words. So far they are `serial`, the path of a module and that of one operation file.
 pub fn command_of(words: &Words) -> Option<Command<'_>>
-    ensures { option_map task_of result ≡ task_of_words words.now }
+    ensures value { option_map task_of result ≡ task_of_words words.now }
+    ensures one { IfSome result (λ command. length command.rest.now ≡ 1) }
 {
-    match words.as_slice() {
+    let items = words.as_slice();
+    match items {
         [command, first, calls] if command.as_str() == "serial" => Some(Command {
             verb: Verb::Serial,
             first: first.as_str(),
-            rest: &words.as_slice()[2..],
+            rest: &items[2..],
         }),
         _ => None,
     }

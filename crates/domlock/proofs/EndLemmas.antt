@@ -1,0 +1,127 @@
+use Rattle.std.proofs.Common.{◌≡◌, ◌≢◌, ℕ, ◌+◌, ◌<◌, List, [], Some, None, refl, sym, ◌∙◌, ap, subst, arith}
+use Rattle.dl_io.specs.Source.{Source}
+use Rattle.dl_io.specs.Taken.{Taken, Took}
+use Rattle.dl_ir.specs.declared.answers.Entry.{Entry}
+use Rattle.dl_ir.specs.declared.answers.Refusal.{Refusal}
+use Rattle.dl_ir.specs.declared.modules.Module.{Module}
+use Rattle.domlock.specs.declared.status.Status.{Status}
+use Rattle.domlock.specs.declared.status.Status.TheVariants as statuses
+use Rattle.domlock.specs.Causes.{NoModule, NoCalls, Refuses, Cut}
+use Rattle.domlock.specs.Promise.{Ran, Ends, Prints}
+use Rattle.domlock.specs.Reading.{ReadCause, IsWithin}
+use Rattle.domlock.specs.Words.{Text, Task, limit_of, task_of_words}
+
+-- a status with which files are refused
+abbrev IsRefusal : Status → Type 0
+IsRefusal statuses.Done = ⊥
+IsRefusal statuses.WriteFault = ⊥
+IsRefusal statuses.Usage = ⊥
+IsRefusal (statuses.ReadFault file) = Unit {0}
+IsRefusal (statuses.TooLong file) = Unit {0}
+IsRefusal (statuses.ModuleFault line why) = Unit {0}
+IsRefusal (statuses.OpsFault file line why) = Unit {0}
+IsRefusal statuses.Memory = Unit {0}
+
+read_refuses : (status : Status) (file : ℕ) (path : Text) (old new : Source) → ReadCause status file path old new → IsRefusal status
+read_refuses statuses.Done f path old new cause = cause
+read_refuses statuses.WriteFault f path old new cause = cause
+read_refuses statuses.Usage f path old new cause = cause
+read_refuses (statuses.ReadFault file) f path old new cause = tt
+read_refuses (statuses.TooLong file) f path old new cause = tt
+read_refuses (statuses.ModuleFault line why) f path old new cause = tt
+read_refuses (statuses.OpsFault file line why) f path old new cause = tt
+read_refuses statuses.Memory f path old new cause = tt
+
+module_refuses : {path : Text} {old new : Source} {status : Status} → NoModule path old new status → IsRefusal status
+module_refuses {path = path} {old = old} {new = new} {status = status} (NoModule.unread cause) = read_refuses status 0 path old new cause
+module_refuses (NoModule.no_memory is within) = subst IsRefusal (sym is) tt
+module_refuses (NoModule.at_fault line why text is told is_fault within) = subst IsRefusal (sym is) tt
+
+calls_refuse : {source : Module} {file : ℕ} {path : Text} {old new : Source} {status : Status} → NoCalls source file path old new status → IsRefusal status
+calls_refuse {file = file} {path = path} {old = old} {new = new} {status = status} (NoCalls.unread cause) = read_refuses status file path old new cause
+calls_refuse (NoCalls.no_memory is within) = subst IsRefusal (sym is) tt
+calls_refuse (NoCalls.at_fault line why text is told is_fault within) = subst IsRefusal (sym is) tt
+
+refuses : {task : Task} {old new : Source} {status : Status} → Refuses task old new status → IsRefusal status
+refuses (Refuses.no_module cause) = module_refuses cause
+refuses (Refuses.no_calls source before at path file files is cause) = calls_refuse cause
+refuses (Refuses.no_memory is within) = subst IsRefusal (sym is) tt
+
+-- what is printed is printed by one of two statuses
+printed : {P : Type 0} (status : Status) (text : Text) (old new : Taken) → Prints status text old new → status ≢ statuses.Done → status ≢ statuses.WriteFault → P
+printed statuses.Done text old new prints no_done no_fault = absurd (no_done refl)
+printed statuses.WriteFault text old new prints no_done no_fault = absurd (no_fault refl)
+printed statuses.Usage text old new prints no_done no_fault = absurd prints
+printed (statuses.ReadFault file) text old new prints no_done no_fault = absurd prints
+printed (statuses.TooLong file) text old new prints no_done no_fault = absurd prints
+printed (statuses.ModuleFault line why) text old new prints no_done no_fault = absurd prints
+printed (statuses.OpsFault file line why) text old new prints no_done no_fault = absurd prints
+printed statuses.Memory text old new prints no_done no_fault = absurd prints
+
+-- where reading stopped and more than the limit was taken, the file was too long
+read_long : (status : Status) (f : ℕ) (path : Text) (old new : Source) (file : ℕ) → ReadCause status f path old new →
+    new.attached ≡ Some file → limit_of file < new.given → status ≡ statuses.TooLong file
+read_long statuses.Done g path old new file cause is more = absurd cause
+read_long statuses.WriteFault g path old new file cause is more = absurd cause
+read_long statuses.Usage g path old new file cause is more = absurd cause
+read_long (statuses.ReadFault f) g path old new file cause is more = let short = cause.2 file is in absurd (omega (arith, short, more))
+read_long (statuses.TooLong f) g path old new file cause is more = let e = cause.1.attached in cc
+read_long (statuses.ModuleFault line why) g path old new file cause is more = absurd cause
+read_long (statuses.OpsFault f line why) g path old new file cause is more = absurd cause
+read_long statuses.Memory g path old new file cause is more = let short = cause file is in absurd (omega (arith, short, more))
+
+within_long : {P : Type 0} (new : Source) (file : ℕ) → IsWithin new → new.attached ≡ Some file → limit_of file < new.given → P
+within_long new file within is more = let short = within file is in absurd (omega (arith, short, more))
+
+refused_long : {task : Task} {old new : Source} {status : Status} (file : ℕ) → Refuses task old new status → new.attached ≡ Some file →
+    limit_of file < new.given → status ≡ statuses.TooLong file
+refused_long {task = task} {old = old} {new = new} {status = status} file (Refuses.no_module (NoModule.unread cause)) is more = read_long status 0 task.first old new file cause is more
+refused_long {new = new} file (Refuses.no_module (NoModule.no_memory e within)) is more = within_long new file within is more
+refused_long {new = new} file (Refuses.no_module (NoModule.at_fault line why text e told is_fault within)) is more = within_long new file within is more
+refused_long {old = old} {new = new} {status = status} file (Refuses.no_calls source before at path source_file files is_path (NoCalls.unread cause)) is more = read_long status (at + 1) path old new file cause is more
+refused_long {new = new} file (Refuses.no_calls source before at path source_file files is_path (NoCalls.no_memory e within)) is more = within_long new file within is more
+refused_long {new = new} file (Refuses.no_calls source before at path source_file files is_path (NoCalls.at_fault line why text e told is_fault within)) is more = within_long new file within is more
+refused_long {new = new} file (Refuses.no_memory e within) is more = within_long new file within is more
+
+-- the clauses of a call that ends so
+module _ {words : List Text} {old new : Source} {before after : Taken} {status : Status} {history : List Entry} {refusals : List Refusal} where
+  pub ends_done : Ends words old new before after status history refusals → status ≡ statuses.Done →
+      (text : Text) × Ran words old history refusals text × Took before.written after.written text
+  ends_done (Ends.usage is none same same_taken no_history no_refusals) done = let e : statuses.Usage ≡ statuses.Done = sym is ∙ done in absurd (cc)
+  ends_done (Ends.refused task is_task cause same_taken no_history no_refusals) done = absurd (subst IsRefusal done (refuses cause))
+  ends_done (Ends.ran text ran within prints) done = (text, ran, subst (λ s. Prints s text before after) done prints)
+
+  pub ends_cut : Ends words old new before after status history refusals → status ≡ statuses.WriteFault →
+      (text : Text) × Ran words old history refusals text × Cut text before after
+  ends_cut (Ends.usage is none same same_taken no_history no_refusals) fault = let e : statuses.Usage ≡ statuses.WriteFault = sym is ∙ fault in absurd (cc)
+  ends_cut (Ends.refused task is_task cause same_taken no_history no_refusals) fault = absurd (subst IsRefusal fault (refuses cause))
+  ends_cut (Ends.ran text ran within prints) fault = (text, ran, subst (λ s. Prints s text before after) fault prints)
+
+  pub ends_nothing : Ends words old new before after status history refusals → status ≢ statuses.Done → status ≢ statuses.WriteFault →
+      (after ≡ before) × (history ≡ []) × (refusals ≡ [])
+  ends_nothing (Ends.usage is none same same_taken no_history no_refusals) no_done no_fault = (same_taken, no_history, no_refusals)
+  ends_nothing (Ends.refused task is_task cause same_taken no_history no_refusals) no_done no_fault = (same_taken, no_history, no_refusals)
+  ends_nothing (Ends.ran text ran within prints) no_done no_fault = printed status text before after prints no_done no_fault
+
+  pub ends_usage : Ends words old new before after status history refusals → status ≡ statuses.Usage → task_of_words words ≡ None
+  ends_usage (Ends.usage is none same same_taken no_history no_refusals) usage = none
+  ends_usage (Ends.refused task is_task cause same_taken no_history no_refusals) usage = absurd (subst IsRefusal usage (refuses cause))
+  ends_usage (Ends.ran text ran within prints) usage = absurd (subst (λ s. Prints s text before after) usage prints)
+
+  pub ends_no_task : Ends words old new before after status history refusals → task_of_words words ≡ None → status ≡ statuses.Usage
+  ends_no_task (Ends.usage is none same same_taken no_history no_refusals) no_task = is
+  ends_no_task (Ends.refused task is_task cause same_taken no_history no_refusals) no_task = cc
+  ends_no_task (Ends.ran text ran within prints) no_task = let e = ran.is_task in cc
+
+  pub ends_cause : Ends words old new before after status history refusals → status ≢ statuses.Done → status ≢ statuses.WriteFault → status ≢ statuses.Usage →
+      (task : Task) × (task_of_words words ≡ Some task) × Refuses task old new status
+  ends_cause (Ends.usage is none same same_taken no_history no_refusals) no_done no_fault no_usage = absurd (no_usage is)
+  ends_cause (Ends.refused task is_task cause same_taken no_history no_refusals) no_done no_fault no_usage = (task, is_task, cause)
+  ends_cause (Ends.ran text ran within prints) no_done no_fault no_usage = printed status text before after prints no_done no_fault
+
+  pub ends_long : Ends words old new before after status history refusals → old.given ≡ 0 → (file : ℕ) → new.attached ≡ Some file →
+      limit_of file < new.given → status ≡ statuses.TooLong file
+  ends_long (Ends.usage is none same same_taken no_history no_refusals) begins file attached more =
+      let e = ap (λ (s : Source). s.given) same in absurd (omega (arith, e, begins, more))
+  ends_long (Ends.refused task is_task cause same_taken no_history no_refusals) begins file attached more = refused_long file cause attached more
+  ends_long (Ends.ran text ran within prints) begins file attached more = within_long new file within attached more

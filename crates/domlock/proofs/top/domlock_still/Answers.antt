@@ -1,0 +1,12 @@
+use Rattle.domlock.proofs.EndLemmas.{ends_done, ends_cut, ends_nothing, ends_usage, ends_no_task, ends_cause, ends_long}
+use Rattle.domlock.proofs.top.domlock_still.Goals as goal
+
+pub returns : goal.returns
+returns g c = let ends = c.run_still.ensures in record {
+  done = ends_done ends;
+  write_fault = ends_cut ends;
+  nothing = ends_nothing ends;
+  usage = (ends_usage ends, ends_no_task ends);
+  causes = ends_cause ends;
+  too_long = ends_long ends;
+}

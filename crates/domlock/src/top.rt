@@ -1,0 +1,92 @@
+ghost use Rattle.std.specs.Prelude.{◌≡◌, ◌≢◌, ◌↔◌, ◌<◌, ℕ, List, [], Some, None};
+ghost use Rattle.dl_io.specs.Taken.{Took};
+ghost use Rattle.domlock.specs.Causes.{Refuses, Cut};
+ghost use Rattle.domlock.specs.Promise.{Ran, Ends};
+ghost use Rattle.domlock.specs.Words.{Task, limit_of, task_of_words};
+
+use crate::loading::read_input;
+use crate::run::{run_input, write_run};
+use crate::status::Status;
+use crate::words::{Words, command_of};
+use dl_history::History;
+use dl_io::{Files, Sink};
+use dl_ir::Refusal;
+use sqlite_items::Items;
+use std::alloc::Global;
+
+/// How a call ended, with the order in which the operations were carried out and with those that were refused.
+#[derive(Drop)]
+pub struct Outcome {
+    pub status: Status,
+    pub history: History,
+    /// By caller and index.
+    pub refusals: Items<Refusal>,
+}
+
+// An outcome of which nothing was carried out.
+fn nothing(alloc: Global, status: Status) -> Outcome
+    ensures status { result.status ≡ status }
+    ensures history { result.history.entries ≡ [] }
+    ensures refusals { result.refusals ≡ [] }
+{
+    Outcome {
+        status,
+        history: History::empty(alloc),
+        refusals: Items::new(alloc),
+    }
+}
+
+fn run_still<F: Files, K: Sink>(alloc: Global, words: &Words, files: &mut F, out: &mut K) -> Outcome
+    ensures { Ends words.now (F.source files.old) (F.source files.new) (K.taken out.old) (K.taken out.new) result.status result.history.entries result.refusals }
+{
+    let Some(command) = command_of(words) else {
+        return nothing(alloc, Status::Usage);
+    };
+    let input = match read_input(alloc, files, &command) {
+        Ok(input) => input,
+        Err(status) => return nothing(alloc, status),
+    };
+    match run_input(alloc, &input) {
+        Ok(run) => {
+            let status = write_run(&input, &run, out);
+            Outcome {
+                status,
+                history: run.history,
+                refusals: run.refusals,
+            }
+        }
+        Err(_) => nothing(alloc, Status::Memory),
+    }
+}
+
+/// Does all that the program does but for running several files at once, over files and a sink that are handed in. Where
+/// memory runs out, files may have been attached and read.
+pub fn domlock_still<F: Files, K: Sink>(
+    alloc: Global,
+    words: &Words,
+    files: &mut F,
+    out: &mut K,
+) -> Outcome
+    // The sink took the report of a run of what the files' bytes spell.
+    ensures done { result.status ≡ Status.Done → (text : List ℕ) × Ran words.now (F.source files.old) result.history.entries result.refusals text
+        × Took (K.taken out.old).written (K.taken out.new).written text }
+
+    // The same, and a prefix of the report was taken.
+    ensures write_fault { result.status ≡ Status.WriteFault → (text : List ℕ) × Ran words.now (F.source files.old) result.history.entries result.refusals text
+        × Cut text (K.taken out.old) (K.taken out.new) }
+
+    // Else nothing was written.
+    ensures nothing { result.status ≢ Status.Done → result.status ≢ Status.WriteFault →
+        (K.taken out.new ≡ K.taken out.old) × (result.history.entries ≡ []) × (result.refusals ≡ []) }
+    ensures usage { result.status ≡ Status.Usage ↔ (task_of_words words.now ≡ None) }
+
+    // Each other refusal has its cause.
+    ensures causes { result.status ≢ Status.Done → result.status ≢ Status.WriteFault → result.status ≢ Status.Usage →
+        (task : Task) × (task_of_words words.now ≡ Some task) × Refuses task (F.source files.old) (F.source files.new) result.status }
+
+    // Where more than a file's limit was taken of it in this call, nothing else is answered.
+    ensures too_long { (F.source files.old).given ≡ 0 → (file : ℕ) → (F.source files.new).attached ≡ Some file →
+        limit_of file < (F.source files.new).given → result.status ≡ Status.TooLong file }
+{
+    run_still(alloc, words, files, out)
+}
