@@ -9,7 +9,6 @@ use Rattle.dl_ir.specs.Heap.{Objects, blank, root}
 use Rattle.dl_meaning.specs.Fitting.{HoldsType}
 use Rattle.dl_meaning.specs.FirstStates.{AllHold, FirstStatesFit, RootsAreHeld}
 
-
 -- the vars
 abbrev begun : List LocalDecl → List Value
 begun vars = map (λ (var : LocalDecl). blank var.ty) vars

@@ -5,3 +5,4 @@ mod Places
 mod Sound
 mod Total
 mod Turns
+mod Values

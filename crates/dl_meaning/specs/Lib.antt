@@ -3,3 +3,4 @@ pub mod FirstStates
 pub mod OneOutcome
 pub mod Single
 pub mod Typed
+pub mod Values

@@ -1,8 +1,9 @@
 use Rattle.std.specs.Prelude.{◌≡◌, Option, List}
 use Rattle.dl_ir.specs.declared.answers.End.{End}
+use Rattle.dl_ir.specs.declared.expressions.Cond.{Cond}
 use Rattle.dl_ir.specs.declared.statements.Stmt.{Stmt}
-use Rattle.dl_ir.specs.Meaning.{Context, State, Outcome, block_does}
-use Rattle.dl_ir.specs.Relation.{Runs, RunsBlock}
+use Rattle.dl_ir.specs.Meaning.{Context, State, Outcome, does, block_does, loops}
+use Rattle.dl_ir.specs.Relation.{Runs, RunsBlock, Loops}
 
 -- a state after a statement or a block, and how the operation ended there, if it did
 abbrev pub outcome : State → Option End → Outcome
@@ -17,6 +18,15 @@ StatementsHaveAtMostOne = (cx : Context) (d : Stmt) (s t u : State) (end other :
 abbrev pub BlocksHaveAtMostOne : Type 0
 BlocksHaveAtMostOne = (cx : Context) (block : List Stmt) (s t u : State) (end other : Option End)
     → RunsBlock cx block s t end → RunsBlock cx block s u other → (t ≡ u) × (end ≡ other)
+
+-- an outcome of a statement is what the function gives
+abbrev pub DoesIsTheOutcome : Type 0
+DoesIsTheOutcome = (cx : Context) (d : Stmt) (s t : State) (end : Option End) → Runs cx d s t end → does cx d s ≡ outcome t end
+
+-- an outcome of a loop is what the function gives, with as many turns as are left
+abbrev pub LoopsIsTheOutcome : Type 0
+LoopsIsTheOutcome = (cx : Context) (c : Cond) (body : List Stmt) (s t : State) (end : Option End)
+    → Loops cx c body s t end → loops s.turns c (block_does cx body) s ≡ outcome t end
 
 -- an outcome of a block is what the function gives
 abbrev pub BlockDoesIsTheOutcome : Type 0

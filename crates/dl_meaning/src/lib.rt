@@ -4,13 +4,16 @@
 
 ghost use Rattle.dl_meaning.specs.FirstStates.{FirstStatesFit, RootsAreHeld};
 ghost use Rattle.dl_meaning.specs.OneOutcome.{TypedHasOneOutcome, BodiesHaveOneOutcome, FunctionIsRelation};
-ghost use Rattle.dl_meaning.specs.Single.{StatementsHaveAtMostOne, BlocksHaveAtMostOne, BlockDoesIsTheOutcome};
+ghost use Rattle.dl_meaning.specs.Single.{StatementsHaveAtMostOne, BlocksHaveAtMostOne, DoesIsTheOutcome, BlockDoesIsTheOutcome, LoopsIsTheOutcome};
+ghost use Rattle.dl_meaning.specs.Values.{TypedHasOneValue, TypedHasOneTruth};
 
-/// That a statement has at most one outcome from a state, a block too, and that it is the one that the function gives.
+/// That a statement or a block has at most one outcome from a state, and that it is the one that the function gives.
 pub fn at_most_one()
     ensures statements { StatementsHaveAtMostOne }
     ensures blocks { BlocksHaveAtMostOne }
-    ensures function { BlockDoesIsTheOutcome }
+    ensures does { DoesIsTheOutcome }
+    ensures block_does { BlockDoesIsTheOutcome }
+    ensures loops { LoopsIsTheOutcome }
 {}
 
 /// That a typed block has exactly one outcome from each state that fits, and so the body of each operation of a typed module.
@@ -29,4 +32,11 @@ pub fn function_is_relation()
 pub fn first_states_fit()
     ensures states { FirstStatesFit }
     ensures roots { RootsAreHeld }
+{}
+
+/// That a typed expression or condition has exactly one value at a state that fits, and meets no local that is missing or of another
+/// type.
+pub fn one_value()
+    ensures expressions { TypedHasOneValue }
+    ensures conditions { TypedHasOneTruth }
 {}
