@@ -8,5 +8,5 @@ mod names;
 mod operands;
 mod statements;
 
-pub use module::check;
 pub use fault::TypeFault;
+pub use module::check;

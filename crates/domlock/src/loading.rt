@@ -11,9 +11,9 @@ ghost use Rattle.domlock.specs.Loading.{syntax_status, type_status, ParseCause, 
 use crate::reading::read_file;
 use crate::status::{ModuleWhy, OpsWhy, Status};
 use crate::words::Command;
+use dl_grammar::{SyntaxFault, read_module};
 use dl_io::Files;
 use dl_ir::{Calls, Module};
-use dl_grammar::{SyntaxFault, read_module};
 use dl_syntax::{CallsFault, read_calls};
 use dl_types::{TypeFault, check};
 use std::alloc::Global;
