@@ -5,7 +5,6 @@ use Rattle.dl_ir.specs.declared.modules.KindDecl.{KindDecl}
 use Rattle.dl_ir.specs.declared.modules.LocalDecl.{LocalDecl}
 use Rattle.dl_ir.specs.declared.modules.OpDecl.{OpDecl}
 use Rattle.dl_ir.specs.declared.modules.Module.{Module}
-use Rattle.dl_grammar.specs.declared.tree.TreeKind.{TreeKind}
 use Rattle.dl_grammar.specs.declared.tree.TreeOp.{TreeOp}
 use Rattle.dl_grammar.specs.declared.tree.Tree.{Tree}
 use Rattle.dl_types.specs.declared.fault.TypeFault.{TypeFault}
@@ -32,15 +31,15 @@ op_typed kinds before op =
     if has_op before op.name.text then Err (Twice op.name.line)
     else each (param_typed kinds) [] op.params >>= λ params. op_with kinds op params
 
--- a kind of a tree is a root kind
-abbrev pub is_root : TreeKind → Bool
+-- a kind is a root kind
+abbrev pub is_root : KindDecl → Bool
 is_root kind = kind.is_root
 
 -- the module that a tree is, or its first fault; where there is no other fault, a root kind has to be there
 abbrev pub typed : Tree → Result Module TypeFault
 typed tree =
     each (kind_typed tree.kinds) [] tree.kinds >>= λ kinds. each (op_typed kinds) [] tree.ops >>= λ ops.
-    if list_any is_root tree.kinds then Ok (record { version = tree.version; kinds = kinds; ops = ops }) else Err (NoRoots tree.last)
+    if list_any is_root kinds then Ok (record { version = tree.version; kinds = kinds; ops = ops }) else Err (NoRoots tree.last)
 
 -- the tree is this module
 abbrev pub Types : Tree → Module → Type 0

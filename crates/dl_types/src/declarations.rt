@@ -2,6 +2,7 @@ ghost use Rattle.std.specs.Prelude.{◌≡◌, ◌+◌, ◌<◌, ◌≤◌, ◌^
 ghost use Rattle.std.specs.List.{AllByRecursion, list_any};
 ghost use Rattle.std.specs.Str.{bytes_eq};
 ghost use Rattle.dl_ir.specs.declared.modules.KindDecl.{KindDecl as Kind};
+ghost use Rattle.dl_ir.specs.Heap.{HasRootsAt, StandInRow};
 ghost use Rattle.dl_grammar.specs.declared.tree.TreeKind.{TreeKind as TreeKindOf};
 ghost use Rattle.dl_types.specs.Checks.{Gives, each};
 ghost use Rattle.dl_types.specs.Names.{kind_named, tree_kind_named};
@@ -149,6 +150,8 @@ fn kind_typed(
     requires next { next ≡ sum_by (λ (k : Kind). k.count) before.now }
     ensures gives { Gives (spec.kind_typed kinds.now before.now kind.now) result }
     ensures few_fields { IfOk result (λ declared. length declared.fields ≤ 16) }
+    ensures roots { IfOk result (HasRootsAt next) }
+    ensures count { IfOk result (λ declared. declared.count ≤ kind.now.count) }
 {
     if kind_named(before, kind.name.text.as_slice()).is_some() {
         return Err(TypeFault::Twice {
@@ -179,6 +182,7 @@ pub fn kinds_typed(alloc: Global, kinds: &[TreeKind]) -> Result<Items<KindDecl>,
     ensures gives { Gives (each (spec.kind_typed kinds.now) [] kinds.now) result }
     ensures count { IfOk result (λ typed. length typed ≡ length kinds.now) }
     ensures few_fields { IfOk result (All (λ (k : Kind). length k.fields ≤ 16)) }
+    ensures row { IfOk result (StandInRow 0) }
 {
     let mut typed = Items::new(alloc);
     let mut next = 0;

@@ -4,7 +4,7 @@ ghost use Rattle.dl_ir.specs.declared.modules.KindDecl.{KindDecl as Kind};
 ghost use Rattle.dl_ir.specs.declared.modules.Module.{Module as ModuleOf};
 ghost use Rattle.dl_types.specs.declared.fault.TypeFault.{TypeFault as FaultOf};
 ghost use Rattle.dl_types.specs.Checks.{Gives, each};
-ghost use Rattle.dl_types.specs.Limits.{IsInLimits, IsOpInLimits};
+ghost use Rattle.dl_types.specs.Limits.{IsInLimits, IsOpInLimits, IsOperation, IsModuleInLimits};
 ghost use Rattle.dl_types.specs.Statements.{block_typed};
 ghost use Rattle.dl_types.specs.Typing as spec;
 ghost use Rattle.dl_types.specs.Typing.{Types, IsTypeFault};
@@ -13,7 +13,7 @@ use crate::declarations::{has_root, kinds_typed, params_typed, text_of, vars_typ
 use crate::fault::TypeFault;
 use crate::names::has_op;
 use crate::operands::Scope;
-use dl_grammar::{Tree, TreeKind, TreeOp};
+use dl_grammar::{Tree, TreeOp};
 use dl_ir::{Block, KindDecl, LocalDecl, Module, OpDecl};
 use sqlite_items::Items;
 use std::alloc::Global;
@@ -31,11 +31,7 @@ fn body_typed(
     requires few_locals { length params.now + length vars.now ≤ 32 }
     ensures { Gives (block_typed kinds.now params.now vars.now op.now.body) result }
 {
-    let scope = Scope {
-        kinds,
-        params,
-        vars,
-    };
+    let scope = Scope { kinds, params, vars };
     scope.block_typed(alloc, &op.body)
 }
 
@@ -49,19 +45,13 @@ fn op_behind(
     requires few_kinds { length kinds.now ≤ 16 }
     requires few_fields { All (λ (k : Kind). length k.fields ≤ 16) kinds.now }
     requires few_locals { length params + length op.now.vars ≤ 32 }
-    ensures { Gives (spec.op_behind kinds.now op.now params) result }
+    ensures gives { Gives (spec.op_behind kinds.now op.now params) result }
+    ensures in_limits { IfOk result (λ declared. (declared.params ≡ params) × (length declared.vars ≡ length op.now.vars) × (declared.allocs ≡ op.now.allocs) × (declared.fuel ≡ op.now.fuel)) }
 {
     let vars = vars_typed(alloc, kinds, params.as_slice(), op.vars.as_slice())?;
     let body = body_typed(alloc, kinds, params.as_slice(), vars.as_slice(), op)?;
     let name = text_of(alloc, &op.name)?;
-    Ok(OpDecl {
-        name,
-        params,
-        vars,
-        allocs: op.allocs,
-        fuel: op.fuel,
-        body,
-    })
+    Ok(OpDecl { name, params, vars, allocs: op.allocs, fuel: op.fuel, body })
 }
 
 /// An operation with these parameters, one of which has to refer to a root.
@@ -74,7 +64,9 @@ fn op_with(
     requires few_kinds { length kinds.now ≤ 16 }
     requires few_fields { All (λ (k : Kind). length k.fields ≤ 16) kinds.now }
     requires few_locals { length params + length op.now.vars ≤ 32 }
-    ensures { Gives (spec.op_with kinds.now op.now params) result }
+    requires in_limits { IsOpInLimits op.now }
+    ensures gives { Gives (spec.op_with kinds.now op.now params) result }
+    ensures in_limits { IfOk result IsOperation }
 {
     if has_root(params.as_slice()) {
         op_behind(alloc, kinds, op, params)
@@ -93,7 +85,8 @@ fn op_typed(
     requires few_kinds { length kinds.now ≤ 16 }
     requires few_fields { All (λ (k : Kind). length k.fields ≤ 16) kinds.now }
     requires in_limits { IsOpInLimits op.now }
-    ensures { Gives (spec.op_typed kinds.now before.now op.now) result }
+    ensures gives { Gives (spec.op_typed kinds.now before.now op.now) result }
+    ensures in_limits { IfOk result IsOperation }
 {
     if has_op(before, op.name.text.as_slice()) {
         return Err(TypeFault::Twice { line: op.name.line });
@@ -107,7 +100,9 @@ fn ops_typed(alloc: Global, kinds: &[KindDecl], ops: &[TreeOp]) -> Result<Items<
     requires few_kinds { length kinds.now ≤ 16 }
     requires few_fields { All (λ (k : Kind). length k.fields ≤ 16) kinds.now }
     requires in_limits { AllByRecursion IsOpInLimits ops.now }
-    ensures { Gives (each (spec.op_typed kinds.now) [] ops.now) result }
+    ensures gives { Gives (each (spec.op_typed kinds.now) [] ops.now) result }
+    ensures count { IfOk result (λ typed. length typed ≡ length ops.now) }
+    ensures in_limits { IfOk result (All IsOperation) }
 {
     let mut typed = Items::new(alloc);
     for op in ops {
@@ -117,7 +112,7 @@ fn ops_typed(alloc: Global, kinds: &[KindDecl], ops: &[TreeOp]) -> Result<Items<
     Ok(typed)
 }
 
-fn has_root_kind(kinds: &[TreeKind]) -> bool
+fn has_root_kind(kinds: &[KindDecl]) -> bool
     ensures { result ≡ list_any spec.is_root kinds.now }
 {
     kinds.iter().any(|kind| kind.is_root)
@@ -125,16 +120,13 @@ fn has_root_kind(kinds: &[TreeKind]) -> bool
 
 fn module_typed(alloc: Global, tree: &Tree) -> Result<Module, TypeFault>
     requires { IsInLimits tree.now }
-    ensures { Gives (spec.typed tree.now) result }
+    ensures gives { Gives (spec.typed tree.now) result }
+    ensures in_limits { IfOk result IsModuleInLimits }
 {
     let kinds = kinds_typed(alloc, tree.kinds.as_slice())?;
     let ops = ops_typed(alloc, kinds.as_slice(), tree.ops.as_slice())?;
-    if has_root_kind(tree.kinds.as_slice()) {
-        Ok(Module {
-            version: tree.version,
-            kinds,
-            ops,
-        })
+    if has_root_kind(kinds.as_slice()) {
+        Ok(Module { version: tree.version, kinds, ops })
     } else {
         Err(TypeFault::NoRoots { line: tree.last })
     }
@@ -152,6 +144,8 @@ pub fn check(alloc: Global, tree: &Tree) -> Result<Module, TypeFault>
     // A fault is the first one, and where there is one it is answered.
     ensures fault { IfErr result (λ fault. fault ≢ TypeFault.Memory → IsTypeFault tree.now fault) }
     ensures only_fault { (fault : FaultOf) → IsTypeFault tree.now fault → MatchResult result (λ _. ⊥) (λ found. found ≢ TypeFault.Memory → found ≡ fault) }
+
+    ensures in_limits { IfOk result IsModuleInLimits }
 {
     module_typed(alloc, tree)
 }
