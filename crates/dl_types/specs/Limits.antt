@@ -6,7 +6,7 @@ use Rattle.dl_ir.specs.declared.modules.Module.{Module}
 use Rattle.dl_ir.specs.Heap.{HasStart}
 use Rattle.dl_grammar.specs.declared.tree.Tree.{Tree}
 use Rattle.dl_grammar.specs.declared.tree.TreeKind.{TreeKind}
-use Rattle.dl_grammar.specs.declared.tree.TreeOp.{TreeOp}
+use Rattle.dl_grammar.specs.Limits.{IsOpInLimits}
 use Rattle.dl_types.specs.Declarations.{is_root_param}
 use Rattle.dl_types.specs.Typing.{is_root}
 
@@ -18,14 +18,8 @@ HasSomeRoot kind = kind.is_root ≡ true → 1 ≤ kind.count
 abbrev pub HasFewFields : TreeKind → Type 0
 HasFewFields kind = length kind.fields ≤ 16
 
--- an operation has at most 32 locals, makes at most 64 objects and has at most 1,000,000 turns
-pub record IsOpInLimits (op : TreeOp) : Type 0 where
-  pub few_locals : length op.params + length op.vars ≤ 32
-  pub few_allocs : op.allocs ≤ 64
-  pub little_fuel : op.fuel ≤ 1000000
-
--- a tree has at most 16 kinds, 64 operations and 1,024 roots in all
-pub record IsInLimits (tree : Tree) : Type 0 where
+-- the limits of a tree, element by element, as the checker goes through it
+pub record IsBounded (tree : Tree) : Type 0 where
   pub few_kinds : length tree.kinds ≤ 16
   pub some_roots : AllByRecursion HasSomeRoot tree.kinds
   pub few_fields : AllByRecursion HasFewFields tree.kinds

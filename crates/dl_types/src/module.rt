@@ -4,7 +4,8 @@ ghost use Rattle.dl_ir.specs.declared.modules.KindDecl.{KindDecl as Kind};
 ghost use Rattle.dl_ir.specs.declared.modules.Module.{Module as ModuleOf};
 ghost use Rattle.dl_types.specs.declared.fault.TypeFault.{TypeFault as FaultOf};
 ghost use Rattle.dl_types.specs.Checks.{Gives, each};
-ghost use Rattle.dl_types.specs.Limits.{IsInLimits, IsOpInLimits, IsOperation, IsModuleInLimits};
+ghost use Rattle.dl_grammar.specs.Limits.{IsInLimits, IsOpInLimits};
+ghost use Rattle.dl_types.specs.Limits.{IsBounded, IsOperation, IsModuleInLimits};
 ghost use Rattle.dl_types.specs.Statements.{block_typed};
 ghost use Rattle.dl_types.specs.Typing as spec;
 ghost use Rattle.dl_types.specs.Typing.{Types, IsTypeFault};
@@ -130,7 +131,7 @@ fn has_root_kind(kinds: &[KindDecl]) -> bool
 }
 
 fn module_typed(alloc: Global, tree: &Tree) -> Result<Module, TypeFault>
-    requires { IsInLimits tree.now }
+    requires { IsBounded tree.now }
     ensures gives { Gives (spec.typed tree.now) result }
     ensures in_limits { IfOk result IsModuleInLimits }
 {

@@ -1,8 +1,7 @@
-use Rattle.std.proofs.Common.{◌≡◌, ◌≢◌, ℕ, List, Result, Ok, Err, IfErr, refl, sym, ◌∙◌, subst, arith, Bool, true, false, zero-add}
+use Rattle.std.proofs.Common.{◌≢◌, ℕ, List, Result, Ok, Err, IfErr, refl, sym, ◌∙◌, subst}
 use Rattle.dl_io.specs.Source.{Source, Tells}
 use Rattle.dl_ir.specs.declared.modules.Module.{Module}
 use Rattle.dl_ir.specs.declared.calls.Call.{Call}
-use Rattle.dl_ir.specs.Heap.{HasStart}
 use Rattle.dl_grammar.specs.Texts.{Spells, IsSyntaxFault}
 use Rattle.dl_grammar.specs.declared.tree.Tree.{Tree}
 use Rattle.dl_grammar.specs.declared.fault.SyntaxFault.{SyntaxFault}

@@ -1,7 +1,8 @@
 use Rattle.std.proofs.Common.{◌≡◌, drop, [], length, All}
 use Rattle.std.specs.List.{AllByRecursion}
 use Rattle.dl_types.specs.Checks.{each}
-use Rattle.dl_types.specs.Limits.{IsOpInLimits, IsOperation}
+use Rattle.dl_grammar.specs.Limits.{IsOpInLimits}
+use Rattle.dl_types.specs.Limits.{IsOperation}
 use Rattle.dl_types.specs.Typing.{op_typed}
 use Rattle.dl_types.proofs.module.ops_typed.Given as goal
 
