@@ -4,7 +4,6 @@ use Rattle.dl_types.specs.declared.fault.TypeFault.{TypeFault}
 use Rattle.dl_types.specs.declared.fault.TypeFault.TheVariants.{Memory}
 
 infixl 10 ◌>>=◌
-
 -- goes on with the value, if there is one
 abbrev pub ◌>>=◌ : {A B : Type 0} → Result A TypeFault → (A → Result B TypeFault) → Result B TypeFault
 Ok a >>= next = next a

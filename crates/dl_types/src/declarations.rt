@@ -80,7 +80,11 @@ fn field_type(kinds: &[TreeKind], word: &Word) -> Result<Ty, TypeFault>
     if is_int(word) {
         return Ok(Ty::Int);
     }
-    kind_type(Place::InField, word.line, tree_kind_named(kinds, word.text.as_slice()))
+    kind_type(
+        Place::InField,
+        word.line,
+        tree_kind_named(kinds, word.text.as_slice()),
+    )
 }
 
 /// The type that a word means as that of a parameter or a var.
@@ -94,20 +98,31 @@ fn local_type(kinds: &[KindDecl], place: Place, word: &Word) -> Result<Ty, TypeF
     kind_type(place, word.line, kind_named(kinds, word.text.as_slice()))
 }
 
-fn field_typed(alloc: Global, kinds: &[TreeKind], before: &[FieldDecl], field: &TreeField) -> Result<FieldDecl, TypeFault>
+fn field_typed(
+    alloc: Global,
+    kinds: &[TreeKind],
+    before: &[FieldDecl],
+    field: &TreeField,
+) -> Result<FieldDecl, TypeFault>
     requires few_kinds { length kinds.now < 2 ^ 32 }
     requires few_fields { length before.now < 2 ^ 32 }
     ensures { Gives (spec.field_typed kinds.now before.now field.now) result }
 {
     if field_named(before, field.name.text.as_slice()).is_some() {
-        return Err(TypeFault::Twice { line: field.name.line });
+        return Err(TypeFault::Twice {
+            line: field.name.line,
+        });
     }
     let ty = field_type(kinds, &field.ty)?;
     let name = text_of(alloc, &field.name)?;
     Ok(FieldDecl { name, ty })
 }
 
-fn fields_typed(alloc: Global, kinds: &[TreeKind], fields: &[TreeField]) -> Result<Items<FieldDecl>, TypeFault>
+fn fields_typed(
+    alloc: Global,
+    kinds: &[TreeKind],
+    fields: &[TreeField],
+) -> Result<Items<FieldDecl>, TypeFault>
     requires few_kinds { length kinds.now < 2 ^ 32 }
     requires few_fields { length fields.now ≤ 16 }
     ensures gives { Gives (each (spec.field_typed kinds.now) [] fields.now) result }
@@ -139,12 +154,24 @@ fn kind_typed(
     ensures count { IfOk result (λ declared. declared.count ≤ kind.now.count) }
 {
     if kind_named(before, kind.name.text.as_slice()).is_some() {
-        return Err(TypeFault::Twice { line: kind.name.line });
+        return Err(TypeFault::Twice {
+            line: kind.name.line,
+        });
     }
     let fields = fields_typed(alloc, kinds, kind.fields.as_slice())?;
     let name = text_of(alloc, &kind.name)?;
-    let (first, count) = if kind.is_root { (next, kind.count) } else { (0, 0) };
-    Ok(KindDecl { name, is_root: kind.is_root, first, count, fields })
+    let (first, count) = if kind.is_root {
+        (next, kind.count)
+    } else {
+        (0, 0)
+    };
+    Ok(KindDecl {
+        name,
+        is_root: kind.is_root,
+        first,
+        count,
+        fields,
+    })
 }
 
 /// The kinds of a tree.
@@ -178,7 +205,9 @@ fn param_typed(
     ensures { Gives (spec.param_typed kinds.now before.now param.now) result }
 {
     if local_named(0, before, param.name.text.as_slice()).is_some() {
-        return Err(TypeFault::Twice { line: param.name.line });
+        return Err(TypeFault::Twice {
+            line: param.name.line,
+        });
     }
     let ty = local_type(kinds, Place::InParam, &param.ty)?;
     let name = text_of(alloc, &param.name)?;
@@ -216,7 +245,9 @@ fn var_typed(
     ensures { Gives (spec.var_typed kinds.now params.now before.now var.now) result }
 {
     if local_of(params, before, var.name.text.as_slice()).is_some() {
-        return Err(TypeFault::Twice { line: var.name.line });
+        return Err(TypeFault::Twice {
+            line: var.name.line,
+        });
     }
     let ty = local_type(kinds, Place::InVar, &var.ty)?;
     let name = text_of(alloc, &var.name)?;

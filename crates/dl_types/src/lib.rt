@@ -8,5 +8,8 @@ mod names;
 mod operands;
 mod statements;
 
-pub use module::check;
 pub use fault::TypeFault;
+pub use module::check;
+
+#[cfg(test)]
+mod tests;

@@ -31,7 +31,11 @@ fn body_typed(
     requires few_locals { length params.now + length vars.now ≤ 32 }
     ensures { Gives (block_typed kinds.now params.now vars.now op.now.body) result }
 {
-    let scope = Scope { kinds, params, vars };
+    let scope = Scope {
+        kinds,
+        params,
+        vars,
+    };
     scope.block_typed(alloc, &op.body)
 }
 
@@ -51,7 +55,14 @@ fn op_behind(
     let vars = vars_typed(alloc, kinds, params.as_slice(), op.vars.as_slice())?;
     let body = body_typed(alloc, kinds, params.as_slice(), vars.as_slice(), op)?;
     let name = text_of(alloc, &op.name)?;
-    Ok(OpDecl { name, params, vars, allocs: op.allocs, fuel: op.fuel, body })
+    Ok(OpDecl {
+        name,
+        params,
+        vars,
+        allocs: op.allocs,
+        fuel: op.fuel,
+        body,
+    })
 }
 
 /// An operation with these parameters, one of which has to refer to a root.
@@ -126,7 +137,11 @@ fn module_typed(alloc: Global, tree: &Tree) -> Result<Module, TypeFault>
     let kinds = kinds_typed(alloc, tree.kinds.as_slice())?;
     let ops = ops_typed(alloc, kinds.as_slice(), tree.ops.as_slice())?;
     if has_root_kind(kinds.as_slice()) {
-        Ok(Module { version: tree.version, kinds, ops })
+        Ok(Module {
+            version: tree.version,
+            kinds,
+            ops,
+        })
     } else {
         Err(TypeFault::NoRoots { line: tree.last })
     }

@@ -43,8 +43,9 @@ impl Scope<'_> {
     pub fn local(&self, word: &Word) -> Result<(u32, Ty), TypeFault>
         ensures { result ≡ spec.local_typed self.now.params.now self.now.vars.now word.now }
     {
-        local_of(self.params, self.vars, word.text.as_slice())
-            .ok_or(TypeFault::Unknown { line: word.line })
+        local_of(self.params, self.vars, word.text.as_slice()).ok_or(TypeFault::Unknown {
+            line: word.line,
+        })
     }
 
     /// An expression of numbers; none where a local in it holds a reference.

@@ -259,10 +259,22 @@ fn refs_compared(same: bool, left: Given, right: Given) -> Option<Cond>
             if kind != other {
                 return None;
             }
-            Some(Cond::Refs { same, left: RefSide::Local(p), right: RefSide::Local(q) })
+            Some(Cond::Refs {
+                same,
+                left: RefSide::Local(p),
+                right: RefSide::Local(q),
+            })
         }
-        (Given::Reference { p, .. }, Given::Null) => Some(Cond::Refs { same, left: RefSide::Local(p), right: RefSide::Null }),
-        (Given::Null, Given::Reference { p, .. }) => Some(Cond::Refs { same, left: RefSide::Null, right: RefSide::Local(p) }),
+        (Given::Reference { p, .. }, Given::Null) => Some(Cond::Refs {
+            same,
+            left: RefSide::Local(p),
+            right: RefSide::Null,
+        }),
+        (Given::Null, Given::Reference { p, .. }) => Some(Cond::Refs {
+            same,
+            left: RefSide::Null,
+            right: RefSide::Local(p),
+        }),
         _ => None,
     }
 }
