@@ -1,3 +1,4 @@
+pub mod Checked
 pub mod Checks
 pub mod Declarations
 pub mod Limits

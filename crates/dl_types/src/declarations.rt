@@ -4,6 +4,7 @@ ghost use Rattle.std.specs.Str.{bytes_eq};
 ghost use Rattle.dl_ir.specs.declared.modules.KindDecl.{KindDecl as Kind};
 ghost use Rattle.dl_ir.specs.Heap.{HasRootsAt, StandInRow};
 ghost use Rattle.dl_grammar.specs.declared.tree.TreeKind.{TreeKind as TreeKindOf};
+ghost use Rattle.dl_types.specs.Checked.{RefersAt, IsParam, IsVar};
 ghost use Rattle.dl_types.specs.Checks.{Gives, each};
 ghost use Rattle.dl_types.specs.Names.{kind_named, tree_kind_named};
 ghost use Rattle.dl_types.specs.Declarations as spec;
@@ -87,10 +88,12 @@ fn field_type(kinds: &[TreeKind], word: &Word) -> Result<Ty, TypeFault>
     )
 }
 
+#[tactic(auto, using(crate::proofs::Sorts::kind_accepted))]
 /// The type that a word means as that of a parameter or a var.
 fn local_type(kinds: &[KindDecl], place: Place, word: &Word) -> Result<Ty, TypeFault>
     requires { length kinds.now < 2 ^ 32 }
-    ensures { result ≡ spec.type_of (kind_named 0 kinds.now) place word.now }
+    ensures value { result ≡ spec.type_of (kind_named 0 kinds.now) place word.now }
+    ensures refers { IfOk result (RefersAt kinds.now place) }
 {
     if is_int(word) {
         return Ok(Ty::Int);
@@ -202,7 +205,8 @@ fn param_typed(
 ) -> Result<LocalDecl, TypeFault>
     requires few_kinds { length kinds.now < 2 ^ 32 }
     requires few_before { length before.now < 2 ^ 32 }
-    ensures { Gives (spec.param_typed kinds.now before.now param.now) result }
+    ensures gives { Gives (spec.param_typed kinds.now before.now param.now) result }
+    ensures refers { IfOk result (IsParam kinds.now) }
 {
     if local_named(0, before, param.name.text.as_slice()).is_some() {
         return Err(TypeFault::Twice {
@@ -224,6 +228,7 @@ pub fn params_typed(
     requires few_params { length params.now ≤ 32 }
     ensures gives { Gives (each (spec.param_typed kinds.now) [] params.now) result }
     ensures count { IfOk result (λ typed. length typed ≡ length params.now) }
+    ensures refers { IfOk result (All (IsParam kinds.now)) }
 {
     let mut typed = Items::new(alloc);
     for param in params {
@@ -242,7 +247,8 @@ fn var_typed(
 ) -> Result<LocalDecl, TypeFault>
     requires few_kinds { length kinds.now < 2 ^ 32 }
     requires few_before { length params.now + length before.now < 2 ^ 32 }
-    ensures { Gives (spec.var_typed kinds.now params.now before.now var.now) result }
+    ensures gives { Gives (spec.var_typed kinds.now params.now before.now var.now) result }
+    ensures refers { IfOk result (IsVar kinds.now) }
 {
     if local_of(params, before, var.name.text.as_slice()).is_some() {
         return Err(TypeFault::Twice {
@@ -265,6 +271,7 @@ pub fn vars_typed(
     requires few_locals { length params.now + length vars.now ≤ 32 }
     ensures gives { Gives (each (spec.var_typed kinds.now params.now) [] vars.now) result }
     ensures count { IfOk result (λ typed. length typed ≡ length vars.now) }
+    ensures refers { IfOk result (All (IsVar kinds.now)) }
 {
     let mut typed = Items::new(alloc);
     for var in vars {

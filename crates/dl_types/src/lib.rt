@@ -10,3 +10,6 @@ mod statements;
 
 pub use fault::TypeFault;
 pub use module::check;
+
+#[cfg(test)]
+mod tests;

@@ -3,6 +3,7 @@ ghost use Rattle.std.specs.List.{AllByRecursion, list_any};
 ghost use Rattle.dl_ir.specs.declared.modules.KindDecl.{KindDecl as Kind};
 ghost use Rattle.dl_ir.specs.declared.modules.Module.{Module as ModuleOf};
 ghost use Rattle.dl_types.specs.declared.fault.TypeFault.{TypeFault as FaultOf};
+ghost use Rattle.dl_types.specs.Checked.{IsParam, IsVar};
 ghost use Rattle.dl_types.specs.Checks.{Gives, each};
 ghost use Rattle.dl_grammar.specs.Limits.{IsInLimits, IsOpInLimits};
 ghost use Rattle.dl_types.specs.Limits.{IsBounded, IsOperation, IsModuleInLimits};
@@ -51,7 +52,7 @@ fn op_behind(
     requires few_fields { All (λ (k : Kind). length k.fields ≤ 16) kinds.now }
     requires few_locals { length params + length op.now.vars ≤ 32 }
     ensures gives { Gives (spec.op_behind kinds.now op.now params) result }
-    ensures in_limits { IfOk result (λ declared. (declared.params ≡ params) × (length declared.vars ≡ length op.now.vars) × (declared.allocs ≡ op.now.allocs) × (declared.fuel ≡ op.now.fuel)) }
+    ensures in_limits { IfOk result (λ declared. (declared.params ≡ params) × (length declared.vars ≡ length op.now.vars) × (declared.allocs ≡ op.now.allocs) × (declared.fuel ≡ op.now.fuel) × All (IsVar kinds.now) declared.vars) }
 {
     let vars = vars_typed(alloc, kinds, params.as_slice(), op.vars.as_slice())?;
     let body = body_typed(alloc, kinds, params.as_slice(), vars.as_slice(), op)?;
@@ -77,8 +78,9 @@ fn op_with(
     requires few_fields { All (λ (k : Kind). length k.fields ≤ 16) kinds.now }
     requires few_locals { length params + length op.now.vars ≤ 32 }
     requires in_limits { IsOpInLimits op.now }
+    requires params { All (IsParam kinds.now) params }
     ensures gives { Gives (spec.op_with kinds.now op.now params) result }
-    ensures in_limits { IfOk result IsOperation }
+    ensures in_limits { IfOk result (IsOperation kinds.now) }
 {
     if has_root(params.as_slice()) {
         op_behind(alloc, kinds, op, params)
@@ -98,7 +100,7 @@ fn op_typed(
     requires few_fields { All (λ (k : Kind). length k.fields ≤ 16) kinds.now }
     requires in_limits { IsOpInLimits op.now }
     ensures gives { Gives (spec.op_typed kinds.now before.now op.now) result }
-    ensures in_limits { IfOk result IsOperation }
+    ensures in_limits { IfOk result (IsOperation kinds.now) }
 {
     if has_op(before, op.name.text.as_slice()) {
         return Err(TypeFault::Twice { line: op.name.line });
@@ -114,7 +116,7 @@ fn ops_typed(alloc: Global, kinds: &[KindDecl], ops: &[TreeOp]) -> Result<Items<
     requires in_limits { AllByRecursion IsOpInLimits ops.now }
     ensures gives { Gives (each (spec.op_typed kinds.now) [] ops.now) result }
     ensures count { IfOk result (λ typed. length typed ≡ length ops.now) }
-    ensures in_limits { IfOk result (All IsOperation) }
+    ensures in_limits { IfOk result (All (IsOperation kinds.now)) }
 {
     let mut typed = Items::new(alloc);
     for op in ops {

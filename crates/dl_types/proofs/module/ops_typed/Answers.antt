@@ -8,6 +8,6 @@ pub loop-op-preserved : goal.loop-op-preserved
 loop-op-preserved c = record {
   in_limits = grind (arith, common_steps);
   count = grind (arith, common_steps);
-  each_in_limits = rw c.in_ok-push.ensures.ok (All-push IsOperation c.loop-op.typed c.in_ok-next.next c.loop-op.invariant.each_in_limits c.in_ok-next.ensures.in_limits);
+  each_in_limits = rw c.in_ok-push.ensures.ok (All-push (IsOperation c.args.kinds.now) c.loop-op.typed c.in_ok-next.next c.loop-op.invariant.each_in_limits c.in_ok-next.ensures.in_limits);
   left = grind (arith, common_steps);
 }

@@ -10,6 +10,6 @@ abbrev pub invariant-loop-op : goal.invariant-loop-op
 invariant-loop-op l = record {
   in_limits : AllByRecursion IsOpInLimits (drop l.op-index l.ops);
   count : length l.typed ≡ l.op-index;
-  each_in_limits : All IsOperation l.typed;
+  each_in_limits : All (IsOperation l.kinds) l.typed;
   left : each (op_typed l.kinds) l.typed (drop l.op-index l.ops) ≡ each (op_typed l.kinds) [] l.ops;
 }
