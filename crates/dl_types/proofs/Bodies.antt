@@ -3,7 +3,6 @@ use Rattle.std.proofs.Common.{◌≡◌, List, [], ap, ◌∙◌, sym}
 use Rattle.std.specs.Prelude.{Result, Ok, Err}
 use Rattle.dl_ir.specs.declared.modules.KindDecl.{KindDecl}
 use Rattle.dl_ir.specs.declared.modules.LocalDecl.{LocalDecl}
-use Rattle.dl_ir.specs.declared.modules.OpDecl.{OpDecl}
 use Rattle.dl_ir.specs.declared.statements.Stmt.{Stmt}
 use Rattle.dl_grammar.specs.declared.tree.TreeField.{TreeField}
 use Rattle.dl_grammar.specs.declared.tree.TreeOp.{TreeOp}

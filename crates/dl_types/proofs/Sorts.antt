@@ -1,14 +1,11 @@
 -- A type that is accepted refers to a kind of the right sort.
-use Rattle.std.proofs.Common.{◌≡◌, ℕ, List, refl, ap, ◌∙◌, sym}
-use Rattle.std.specs.Prelude.{Bool, true, false, not, if◌then◌else◌, Option, Some, None, Result, Ok, Err, IfSome, IfOk}
-use Rattle.dl_ir.specs.declared.modules.Ty.{Ty}
-use Rattle.dl_ir.specs.declared.modules.Ty.TheVariants.{Int, Of}
+use Rattle.std.proofs.Common.{◌≡◌, ℕ, List}
+use Rattle.std.specs.Prelude.{Bool, true, false, Option, Some, None, IfSome, IfOk}
 use Rattle.dl_ir.specs.declared.modules.KindDecl.{KindDecl}
-use Rattle.dl_types.specs.declared.fault.TypeFault.{TypeFault}
 use Rattle.dl_types.specs.declared.declarations.Place.{Place}
 use Rattle.dl_types.specs.declared.declarations.Place.TheVariants.{InField, InParam, InVar}
-use Rattle.dl_types.specs.Checked.{sort_of, sort_at, RefersAt}
-use Rattle.dl_types.specs.Declarations.{takes, sort_fault, kind_type}
+use Rattle.dl_types.specs.Checked.{sort_of, RefersAt}
+use Rattle.dl_types.specs.Declarations.{kind_type}
 
 -- a kind of this sort is accepted, or it is not
 accepted : (kinds : List KindDecl) (place : Place) (line number : ℕ) (root : Bool) → sort_of kinds number ≡ Some root → IfOk (kind_type place line (Some (number, root))) (RefersAt kinds place)

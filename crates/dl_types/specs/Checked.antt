@@ -1,5 +1,5 @@
 -- What the types of a checked module refer to.
-use Rattle.std.specs.Prelude.{◌≡◌, ℕ, Bool, true, false, List, slice_get, Option, Some, None, option_map}
+use Rattle.std.specs.Prelude.{◌≡◌, ℕ, Bool, true, false, List, slice_get, Option, Some, option_map}
 use Rattle.dl_ir.specs.declared.modules.Ty.{Ty}
 use Rattle.dl_ir.specs.declared.modules.Ty.TheVariants.{Int, Of}
 use Rattle.dl_ir.specs.declared.modules.KindDecl.{KindDecl}

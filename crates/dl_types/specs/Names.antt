@@ -1,8 +1,7 @@
 -- What names mean: the first declaration of a name in its name space counts, and numbers go from 0 in the order of declaration.
-use Rattle.std.specs.Prelude.{ℕ, ◌+◌, Bool, true, false, if◌then◌else◌, List, [], ◌∷◌, length, slice_get, codes, Option, Some, None, Result, Ok, Err, is_some, option_map}
+use Rattle.std.specs.Prelude.{ℕ, ◌+◌, Bool, true, false, if◌then◌else◌, List, [], ◌∷◌, length, slice_get, Option, Some, None}
 use Rattle.std.specs.Str.{bytes_eq}
 use Rattle.dl_ir.specs.declared.modules.Ty.{Ty}
-use Rattle.dl_ir.specs.declared.modules.Ty.TheVariants.{Int, Of}
 use Rattle.dl_ir.specs.declared.modules.FieldDecl.{FieldDecl}
 use Rattle.dl_ir.specs.declared.modules.KindDecl.{KindDecl}
 use Rattle.dl_ir.specs.declared.modules.LocalDecl.{LocalDecl}

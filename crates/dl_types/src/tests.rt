@@ -1,82 +1,10 @@
-ghost use Rattle.std.specs.Prelude.{◌≡◌, ◌≤◌, true, sum_by, IsTrue};
-ghost use Rattle.std.specs.List.{AllByRecursion};
-ghost use Rattle.dl_grammar.specs.declared.tree.TreeKind.{TreeKind as KindOf};
-ghost use Rattle.dl_types.specs.Limits.{IsInLimits, IsOpInLimits, HasFewFields, HasSomeRoot};
-
 mod texts;
 
 use crate::{TypeFault, check};
-use dl_grammar::{Tree, TreeKind, TreeOp, read_module};
+use dl_grammar::read_module;
 use dl_ir::{Module, Stmt, Ty};
 use std::alloc::Global;
 use std::test::Fail;
-
-fn few_fields(kinds: &[TreeKind]) -> bool
-    ensures { IsTrue result → AllByRecursion HasFewFields kinds.now }
-{
-    let mut rest = kinds;
-    'kinds: while let [kind, more @ ..] = rest {
-        if kind.fields.len() > 16 {
-            return false;
-        }
-        rest = more;
-    }
-    true
-}
-
-fn some_roots(kinds: &[TreeKind]) -> bool
-    ensures { IsTrue result → AllByRecursion HasSomeRoot kinds.now }
-{
-    let mut rest = kinds;
-    'kinds: while let [kind, more @ ..] = rest {
-        if kind.is_root && kind.count == 0 {
-            return false;
-        }
-        rest = more;
-    }
-    true
-}
-
-fn few_roots(kinds: &[TreeKind]) -> bool
-    ensures { IsTrue result → sum_by (λ (k : KindOf). k.count) kinds.now ≤ 1024 }
-{
-    let mut room: u32 = 1024;
-    let mut rest = kinds;
-    'kinds: while let [kind, more @ ..] = rest {
-        if kind.count > room {
-            return false;
-        }
-        room -= kind.count;
-        rest = more;
-    }
-    true
-}
-
-fn small_ops(ops: &[TreeOp]) -> bool
-    ensures { IsTrue result → AllByRecursion IsOpInLimits ops.now }
-{
-    let mut rest = ops;
-    'ops: while let [op, more @ ..] = rest {
-        if op.params.len() > 32 || op.vars.len() > 32 - op.params.len() {
-            return false;
-        }
-        if op.allocs > 64 || op.fuel > 1_000_000 {
-            return false;
-        }
-        rest = more;
-    }
-    true
-}
-
-fn is_in_limits(tree: &Tree) -> bool
-    ensures { IsTrue result → IsInLimits tree.now }
-{
-    let kinds = tree.kinds.as_slice();
-    if kinds.len() > 16 || tree.ops.len() > 64 {
-        return false;
-    }
-    few_fields(kinds) && some_roots(kinds) && few_roots(kinds) && small_ops(tree.ops.as_slice())
-}
 
 // What is checked of a text.
 fn checked(alloc: Global, text: &[u8]) -> Result<Result<Module, TypeFault>, Fail> {
@@ -84,9 +12,6 @@ fn checked(alloc: Global, text: &[u8]) -> Result<Result<Module, TypeFault>, Fail
         return Err(Fail::from("a long text"));
     }
     let tree = read_module(alloc, text)?;
-    if !is_in_limits(&tree) {
-        return Err(Fail::from("a tree beyond the limits"));
-    }
     Ok(check(alloc, &tree))
 }
 

@@ -1,4 +1,4 @@
-use Rattle.std.proofs.Common.{arith, ◌≡◌, ◌+◌, ◌≤◌, drop, length, sum_by}
+use Rattle.std.proofs.Common.{arith, ◌+◌, ◌≤◌, drop, length, sum_by}
 use Rattle.std.proofs.lemmas.List.Elements.{All-push}
 use Rattle.std.proofs.lemmas.Grind.{common_steps}
 use Rattle.dl_ir.specs.declared.modules.KindDecl.{KindDecl}
