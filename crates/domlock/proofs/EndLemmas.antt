@@ -1,4 +1,4 @@
-use Rattle.std.proofs.Common.{◌≡◌, ◌≢◌, ℕ, ◌+◌, ◌<◌, List, [], Some, None, refl, sym, ◌∙◌, ap, subst, arith}
+use Rattle.std.proofs.Common.{◌≡◌, ◌≢◌, ℕ, ◌+◌, ◌<◌, ◌≤◌, List, [], Some, None, refl, sym, ◌∙◌, ap, subst, arith}
 use Rattle.dl_io.specs.Source.{Source}
 use Rattle.dl_io.specs.Taken.{Taken, Took}
 use Rattle.dl_ir.specs.declared.answers.Entry.{Entry}
@@ -83,6 +83,36 @@ refused_long {new = new} file (Refuses.no_calls source before at path source_fil
 refused_long {new = new} file (Refuses.no_calls source before at path source_file files is_path (NoCalls.at_fault line why text e told is_fault within)) is more = within_long new file within is more
 refused_long {new = new} file (Refuses.no_memory e within) is more = within_long new file within is more
 
+-- what is in two like texts is the same
+some_same : (a b : ℕ) → Some a ≡ Some b → a ≡ b
+some_same a b e = cc
+
+within_most : (new : Source) (file : ℕ) → IsWithin new → new.attached ≡ Some file → new.given ≤ limit_of file + 1
+within_most new file within is = let short = within file is in omega (arith, short)
+
+-- where reading stopped, at most one byte more than the limit was taken
+read_most : (status : Status) (f : ℕ) (path : Text) (old new : Source) (file : ℕ) → ReadCause status f path old new →
+    new.attached ≡ Some file → new.given ≤ limit_of file + 1
+read_most statuses.Done g path old new file cause is = absurd cause
+read_most statuses.WriteFault g path old new file cause is = absurd cause
+read_most statuses.Usage g path old new file cause is = absurd cause
+read_most (statuses.ReadFault f) g path old new file cause is = within_most new file cause.2 is
+read_most (statuses.TooLong f) g path old new file cause is =
+    subst (λ n. new.given ≤ limit_of n + 1) (some_same g file (sym cause.1.attached ∙ is)) cause.1.at_most
+read_most (statuses.ModuleFault line why) g path old new file cause is = absurd cause
+read_most (statuses.OpsFault f line why) g path old new file cause is = absurd cause
+read_most statuses.Memory g path old new file cause is = within_most new file cause is
+
+refused_most : {task : Task} {old new : Source} {status : Status} (file : ℕ) → Refuses task old new status → new.attached ≡ Some file →
+    new.given ≤ limit_of file + 1
+refused_most {task = task} {old = old} {new = new} {status = status} file (Refuses.no_module (NoModule.unread cause)) is = read_most status 0 task.first old new file cause is
+refused_most {new = new} file (Refuses.no_module (NoModule.no_memory e within)) is = within_most new file within is
+refused_most {new = new} file (Refuses.no_module (NoModule.at_fault line why text e told is_fault within)) is = within_most new file within is
+refused_most {old = old} {new = new} {status = status} file (Refuses.no_calls source before at path source_file files is_path (NoCalls.unread cause)) is = read_most status (at + 1) path old new file cause is
+refused_most {new = new} file (Refuses.no_calls source before at path source_file files is_path (NoCalls.no_memory e within)) is = within_most new file within is
+refused_most {new = new} file (Refuses.no_calls source before at path source_file files is_path (NoCalls.at_fault line why text e told is_fault within)) is = within_most new file within is
+refused_most {new = new} file (Refuses.no_memory e within) is = within_most new file within is
+
 -- the clauses of a call that ends so
 module _ {words : List Text} {old new : Source} {before after : Taken} {status : Status} {history : List Entry} {refusals : List Refusal} where
   pub ends_done : Ends words old new before after status history refusals → status ≡ statuses.Done →
@@ -125,3 +155,10 @@ module _ {words : List Text} {old new : Source} {before after : Taken} {status :
       let e = ap (λ (s : Source). s.given) same in absurd (omega (arith, e, begins, more))
   ends_long (Ends.refused task is_task cause same_taken no_history no_refusals) begins file attached more = refused_long file cause attached more
   ends_long (Ends.ran text ran within prints) begins file attached more = within_long new file within attached more
+
+  pub ends_most : Ends words old new before after status history refusals → old.given ≡ 0 → (file : ℕ) → new.attached ≡ Some file →
+      new.given ≤ limit_of file + 1
+  ends_most (Ends.usage is none same same_taken no_history no_refusals) begins file attached =
+      let e = ap (λ (s : Source). s.given) same in omega (arith, e, begins)
+  ends_most (Ends.refused task is_task cause same_taken no_history no_refusals) begins file attached = refused_most file cause attached
+  ends_most (Ends.ran text ran within prints) begins file attached = within_most new file within attached

@@ -50,6 +50,7 @@ long_before : {start now new : Source} {file : ℕ} {path : Text} {limit : ℕ} 
 long_before {path = path} {limit = limit} after long = record {
   attached = long.attached;
   taken = long.taken;
+  at_most = long.at_most;
   long = subst (λ (at : List ℕ → Option (List ℕ)). IfSome (at path) (λ bytes. limit < length bytes)) after.same.bytes long.long;
 }
 

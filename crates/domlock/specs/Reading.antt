@@ -1,4 +1,4 @@
-use Rattle.std.specs.Prelude.{◌≡◌, ◌<◌, ◌≤◌, ℕ, Some, List, length, IfSome, Contains}
+use Rattle.std.specs.Prelude.{◌≡◌, ◌+◌, ◌<◌, ◌≤◌, ℕ, Some, List, length, IfSome, Contains}
 use Rattle.dl_io.specs.Faults.{Rose}
 use Rattle.dl_io.specs.Source.{Source, SameFiles}
 use Rattle.domlock.specs.Words.{limit_of}
@@ -13,10 +13,11 @@ pub record Fails (file : ℕ) (path : List ℕ) (old new : Source) : Type 0 wher
   pub file_failed : new.failed_last ≡ Some file
   pub not_sound : Contains old.sound_paths path → ⊥
 
--- more bytes than the limit were taken of this file, and where they are told, more stand at its path
+-- one byte more than the limit was taken of this file, and where they are told, more stand at its path
 pub record IsTooLong (file : ℕ) (path : List ℕ) (limit : ℕ) (old new : Source) : Type 0 where
   pub attached : new.attached ≡ Some file
   pub taken : limit < new.given
+  pub at_most : new.given ≤ limit + 1
   pub long : IfSome (old.bytes_at path) (λ bytes. limit < length bytes)
 
 -- why reading a file stopped

@@ -1,5 +1,6 @@
-ghost use Rattle.std.specs.Prelude.{◌≡◌, ◌<◌, ◌≤◌, ◌^◌, ℕ, Some, IfOk, IfErr, IsErrOf, OnOk, length};
-ghost use Rattle.dl_io.specs.Source.{Tells};
+ghost use Rattle.std.specs.Prelude.{◌≡◌, ◌<◌, ◌≤◌, ◌^◌, ◌+◌, ℕ, true, Some, IfOk, IfErr, IfSome, IsErrOf, IsOk, OnOk, OnErr, length};
+ghost use Rattle.dl_io.specs.Faults.{HasCause};
+ghost use Rattle.dl_io.specs.Source.{SameFiles, Gives, Tells, raised};
 ghost use Rattle.domlock.specs.Reading.{StopCause, AfterReading, ReadCause, IsWithin};
 ghost use Rattle.domlock.specs.Words.{limit_of};
 
@@ -40,7 +41,31 @@ impl From<AllocError> for Stop {
     }
 }
 
-/// Reads a file to its end, unless it is longer than the limit.
+// Gives the next bytes of a file to a buffer, so many at most.
+fn read_piece<F: Files>(
+    files: &mut F,
+    file: u32,
+    buffer: &mut [u8],
+    most: u64,
+) -> Result<usize, Failed>
+    requires attached { (F.source files.old).attached ≡ Some file }
+    requires room { 0 < length buffer.old }
+    requires some { 0 < most }
+    ensures same { SameFiles (F.source files.old) (F.source files.new) }
+    ensures same_attached { ((F.source files.new).attached ≡ (F.source files.old).attached) × ((F.source files.new).is_sound ≡ (F.source files.old).is_sound) }
+    ensures count { IfOk result (λ n. (n ≤ length buffer.old) × (n ≤ most)) }
+    ensures gives { IfOk result (λ n. IfSome (F.source files.old).left (λ left. Gives left n buffer.new (F.source files.new).left)) }
+    ensures given { IfOk result (λ n. (F.source files.new).given ≡ raised (F.source files.old).given n) }
+    ensures given_err { OnErr result ((F.source files.new).given ≡ (F.source files.old).given) }
+    ensures sound { (F.source files.old).is_sound ≡ true → IsOk result }
+    ensures cause { HasCause (F.source files.old).faults (F.source files.new).faults result }
+    ensures names { OnErr result ((F.source files.new).failed_last ≡ Some file) }
+{
+    let want = most.min(buffer.len() as u64) as usize;
+    files.read(file, &mut buffer[..want])
+}
+
+/// Reads a file to its end, unless it is longer than the limit. At most one byte more than the limit is taken of it.
 pub fn read_all<F: Files>(
     alloc: Global,
     files: &mut F,
@@ -52,6 +77,7 @@ pub fn read_all<F: Files>(
     ensures bytes { IfOk result (λ bytes. Tells ((F.source files.old).bytes_at path.now) bytes.items × (length bytes.items ≤ limit)) }
     ensures stops { IfErr result (λ stop. StopCause stop file path.now limit (F.source files.old) (F.source files.new)) }
     ensures given { limit < (F.source files.new).given → IsErrOf result Stop.TooLong }
+    ensures at_most { (F.source files.new).given ≤ limit + 1 }
     ensures attached { 0 < (F.source files.new).given → (F.source files.new).attached ≡ Some file }
     ensures after { AfterReading (F.source files.old) (F.source files.new) }
 {
@@ -60,7 +86,7 @@ pub fn read_all<F: Files>(
     let mut taken = 0;
     let mut buffer = [0; PIECE];
     'pieces: loop {
-        let n = files.read(file, &mut buffer)?;
+        let n = read_piece(files, file, &mut buffer, limit + 1 - taken)?;
         if n == 0 {
             return Ok(bytes);
         }

@@ -88,7 +88,7 @@ fn serial_overflows(rt: HostRuntime) -> Result<(), Fail> {
 
 #[test]
 fn each_refusal_has_its_line_and_code(rt: HostRuntime) -> Result<(), Fail> {
-    let table: [(&str, &[u8], &[u8], &[u8], u8); 9] = [
+    let table: [(&str, &[u8], &[u8], &[u8], u8); 12] = [
         (
             "serial m",
             COUNTER,
@@ -122,6 +122,27 @@ fn each_refusal_has_its_line_and_code(rt: HostRuntime) -> Result<(), Fail> {
             b"domlock 1\n",
             b"",
             b"domlock: module line 1: NoRoots\n",
+            4,
+        ),
+        (
+            "serial m x",
+            b"domlock 1\nroot R 1 { a: int,\n",
+            b"",
+            b"domlock: module line 2: Expected\n",
+            4,
+        ),
+        (
+            "serial m o",
+            b"domlock 1\nroot R 1025 { }\n",
+            b"",
+            b"domlock: module line 2: Limit Roots\n",
+            4,
+        ),
+        (
+            "serial m o",
+            b"domlock 1\nroot R 1 {\n  a: int, a: int }\n",
+            b"",
+            b"domlock: module line 3: Twice\n",
             4,
         ),
         (

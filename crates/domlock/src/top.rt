@@ -1,4 +1,4 @@
-ghost use Rattle.std.specs.Prelude.{◌≡◌, ◌≢◌, ◌↔◌, ◌<◌, ℕ, List, [], Some, None};
+ghost use Rattle.std.specs.Prelude.{◌≡◌, ◌+◌, ◌≤◌, ◌≢◌, ◌↔◌, ◌<◌, ℕ, List, [], Some, None};
 ghost use Rattle.dl_io.specs.Taken.{Took};
 ghost use Rattle.domlock.specs.Causes.{Refuses, Cut};
 ghost use Rattle.domlock.specs.Promise.{Ran, Ends};
@@ -87,6 +87,10 @@ pub fn domlock_still<F: Files, K: Sink>(
     // Where more than a file's limit was taken of it in this call, nothing else is answered.
     ensures too_long { (F.source files.old).given ≡ 0 → (file : ℕ) → (F.source files.new).attached ≡ Some file →
         limit_of file < (F.source files.new).given → result.status ≡ Status.TooLong file }
+
+    // Of no file more than one byte over its limit is taken.
+    ensures at_most { (F.source files.old).given ≡ 0 → (file : ℕ) → (F.source files.new).attached ≡ Some file →
+        (F.source files.new).given ≤ limit_of file + 1 }
 {
     run_still(alloc, words, files, out)
 }

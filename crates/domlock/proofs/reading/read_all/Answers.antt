@@ -8,9 +8,9 @@ pub pieces-preserved : goal.pieces-preserved
 pieces-preserved g c =
     let before = c.pieces.invariant in
     let read = c.in_ok-n.ensures in
-    let size = length-take-le c.in_ok-n.n c.read.new.into (omega (arith, c.read.auto.into, read.count)) in
-    let longer : length (c.pieces.bytes.items ++ take c.in_ok-n.n c.read.new.into) ≡ length c.pieces.bytes.items + c.in_ok-n.n =
-    omega (arith, size, length-append c.pieces.bytes.items (take c.in_ok-n.n c.read.new.into)) in
+    let size = length-take-le c.in_ok-n.n c.read_piece.new.buffer (omega (arith, c.read_piece.auto.buffer, read.count.0)) in
+    let longer : length (c.pieces.bytes.items ++ take c.in_ok-n.n c.read_piece.new.buffer) ≡ length c.pieces.bytes.items + c.in_ok-n.n =
+    omega (arith, size, length-append c.pieces.bytes.items (take c.in_ok-n.n c.read_piece.new.buffer)) in
     rw c.in_ok-extend_from_slice.ensures.items record {
       same = record { bytes = read.same.bytes ∙ before.same.bytes; sound = read.same.sound ∙ before.same.sound };
       later = le_trans before.later read.cause.later;

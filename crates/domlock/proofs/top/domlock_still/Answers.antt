@@ -1,4 +1,4 @@
-use Rattle.domlock.proofs.EndLemmas.{ends_done, ends_cut, ends_nothing, ends_usage, ends_no_task, ends_cause, ends_long}
+use Rattle.domlock.proofs.EndLemmas.{ends_done, ends_cut, ends_nothing, ends_usage, ends_no_task, ends_cause, ends_long, ends_most}
 use Rattle.domlock.proofs.top.domlock_still.Goals as goal
 
 pub returns : goal.returns
@@ -9,4 +9,5 @@ returns g c = let ends = c.run_still.ensures in record {
   usage = (ends_usage ends, ends_no_task ends);
   causes = ends_cause ends;
   too_long = ends_long ends;
+  at_most = ends_most ends;
 }
