@@ -64,6 +64,21 @@ fn serial_adds_twice(rt: HostRuntime) -> Result<(), Fail> {
 }
 
 #[test]
+fn a_sink_of_one_byte_a_call_takes_the_same(rt: HostRuntime) -> Result<(), Fail> {
+    let mut sink = MemSink::new(rt.alloc(), 1, &[], 1000)?;
+    let outcome = call(
+        rt.alloc(),
+        "serial m o",
+        COUNTER,
+        b"add 0 5\nadd 0 7\n",
+        &mut sink,
+    )?;
+    assert_eq!(rt; outcome.status, Status::Done);
+    assert_eq!(rt; sink.bytes(), TWICE);
+    Ok(())
+}
+
+#[test]
 fn serial_of_no_operation(rt: HostRuntime) -> Result<(), Fail> {
     let want: &[u8] =
         b"domlock report 1\nanswers 0\nhistory 0\npool 0\nheap 2 kept 0\n0.0 CELL val=0\n0.1 CELL val=0\nend\n";
@@ -197,6 +212,18 @@ fn a_module_at_its_limit_and_one_byte_longer(rt: HostRuntime) -> Result<(), Fail
     let outcome = call(rt.alloc(), "serial m o", &module, b"", &mut sink)?;
     assert_eq!(rt; outcome.status, Status::TooLong { file: 0 });
     assert_eq!(rt; exit_code(&outcome.status), 3);
+    Ok(())
+}
+
+#[test]
+fn an_operation_file_at_its_limit_and_one_byte_longer(rt: HostRuntime) -> Result<(), Fail> {
+    let mut ops = vec![in rt.alloc(); b' '; 4_194_304]?;
+    let mut sink = MemSink::new(rt.alloc(), 1000, &[], 1000)?;
+    let outcome = call(rt.alloc(), "serial m o", COUNTER, &ops, &mut sink)?;
+    assert_eq!(rt; outcome.status, Status::Done);
+    ops.push(b' ')?;
+    let outcome = call(rt.alloc(), "serial m o", COUNTER, &ops, &mut sink)?;
+    assert_eq!(rt; outcome.status, Status::TooLong { file: 1 });
     Ok(())
 }
 
