@@ -1,6 +1,6 @@
 mod Forest
 mod Looks
 mod Marking
-mod Members
-mod Order
-mod Totals
+pub mod Members
+pub mod Order
+pub mod Totals
