@@ -3,10 +3,21 @@
 #![tactic(auto)]
 
 mod code;
+mod conditions;
 mod copies;
+mod expressions;
 mod generator;
+mod laws;
+mod listing;
+mod names;
 mod steps;
+#[cfg(test)]
+mod test_modules;
+#[cfg(test)]
+mod tests;
 
 pub use code::Code;
 pub use generator::instrument;
+pub use laws::jumps_land;
+pub use listing::print_code;
 pub use steps::{Content, Origin, Step, Steps};
