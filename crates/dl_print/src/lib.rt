@@ -1,0 +1,3 @@
+//! The canonical text of a module: one text for each tree, laid out as a person would write it. `docs/LANGUAGE.md`
+//! tells its form.
+#![tactic(auto)]
