@@ -1,5 +1,5 @@
 -- What the canonical text says to the grammar.
-use Rattle.std.specs.Prelude.{◌≡◌, ℕ, ◌≤◌, true, List, [], ◌∷◌, map, Option, None}
+use Rattle.std.specs.Prelude.{◌≡◌, ℕ, ◌≤◌, true, List, [], ◌∷◌, map, None}
 use Rattle.std.specs.List.{AllByRecursion}
 use Rattle.dl_text.specs.declared.token.Token.{Token}
 use Rattle.dl_text.specs.Bytes.{is_letter, is_word, AllAre}
