@@ -1,0 +1,4 @@
+pub mod Jumps
+pub mod Loops
+pub mod Operands
+pub mod Patches

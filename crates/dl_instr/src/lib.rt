@@ -1,0 +1,23 @@
+//! The instrumented code of a module: the flat lists of steps that its operations become, and the listing that is printed
+//! of them. `docs/SEMANTICS.md` tells what the steps do, and `docs/FORMATS.md` has the form of the listing.
+#![tactic(auto)]
+
+mod code;
+mod conditions;
+mod copies;
+mod expressions;
+mod generator;
+mod laws;
+mod listing;
+mod names;
+mod steps;
+#[cfg(test)]
+mod test_modules;
+#[cfg(test)]
+mod tests;
+
+pub use code::Code;
+pub use generator::instrument;
+pub use laws::jumps_land;
+pub use listing::print_code;
+pub use steps::{Content, Origin, Step, Steps};
