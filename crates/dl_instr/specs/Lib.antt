@@ -1,1 +1,4 @@
 pub mod Code
+pub mod Drops
+pub mod DropsLaws
+pub mod Matching

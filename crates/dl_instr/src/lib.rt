@@ -5,8 +5,10 @@
 mod code;
 mod copies;
 mod generator;
+mod laws;
 mod steps;
 
 pub use code::Code;
 pub use generator::instrument;
+pub use laws::codes_of_modules;
 pub use steps::{Content, Origin, Step, Steps};
