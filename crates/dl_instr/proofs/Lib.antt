@@ -4,5 +4,6 @@ mod Late
 mod Latest
 mod Matched
 mod Moved
+mod Paths
 mod PlainJumps
 mod Rising

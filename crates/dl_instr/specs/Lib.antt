@@ -2,3 +2,4 @@ pub mod Code
 pub mod Drops
 pub mod DropsLaws
 pub mod Matching
+pub mod Paths

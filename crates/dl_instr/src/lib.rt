@@ -6,6 +6,8 @@ mod code;
 mod copies;
 mod generator;
 mod laws;
+mod liveness;
+mod same;
 mod steps;
 
 pub use code::Code;
