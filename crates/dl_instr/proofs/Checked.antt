@@ -30,8 +30,8 @@ past_drop steps p q y path is =
     elim (b.how) [
       | inl read ↦ let none : false ≡ true = ap (reads p) (sym same) ∙ read in absurd cc
       | inr (unset, (next, on, rest)) ↦
-        let here : next ≡ y + 1 = subst (λ (s : Step). GoesOn s y next) same on in
-        (ap (sets p) (sym same) ∙ unset, subst (λ n. IsReadFrom steps p n) here rest)
+          let here : next ≡ y + 1 = subst (λ (s : Step). GoesOn s y next) same on in
+          (ap (sets p) (sym same) ∙ unset, subst (λ n. IsReadFrom steps p n) here rest)
     ]
 
 -- along drops, up to one of the local, the local is not read
@@ -63,20 +63,20 @@ module _ (op : OpDecl) (plain steps : List Step) (w : IsWithDrops op plain steps
         is_drop = w.kept j f.step f.here ∙ ap (λ s. Some (moved (front w.at) s)) plain_drop;
         refers = elim (w.added x (slice_get_within steps x (Drop drop.local) drop.is)) [
           | inl (i, h, same) ↦
-            let behind : j < i = elim (cases_lt j i) [
-              | inl is ↦ is
-              | inr is ↦ let le = not_falling w.at (length plain) i j w.rises is (omega (arith, at)) in absurd (omega (arith, le, same, before))
-            ] in
-            let e = length plain - suc i in
-            let few : suc e < suc d = omega (arith, h, behind, at) in
-            let there = later_of plain steps (suc d) (suc e) x (omega (arith, few)) late in
-            let up = later_above plain steps (suc d) (suc e) x there.0 few late there.1 in
-            let added = moved_later k e i there.0 (omega (arith, few, less)) (omega (arith, h)) there.1 (omega (arith, up, same)) in
-            let one : added.local ≡ drop.local = let a = added.is_drop in let b = drop.is in let c = ap (slice_get steps) same in cc in
-            subst (λ p. is_reference (slice_get (op.params ++ op.vars) p) ≡ true) one added.refers
+              let behind : j < i = elim (cases_lt j i) [
+                | inl is ↦ is
+                | inr is ↦ let le = not_falling w.at (length plain) i j w.rises is (omega (arith, at)) in absurd (omega (arith, le, same, before))
+              ] in
+              let e = length plain - suc i in
+              let few : suc e < suc d = omega (arith, h, behind, at) in
+              let there = later_of plain steps (suc d) (suc e) x (omega (arith, few)) late in
+              let up = later_above plain steps (suc d) (suc e) x there.0 few late there.1 in
+              let added = moved_later k e i there.0 (omega (arith, few, less)) (omega (arith, h)) there.1 (omega (arith, up, same)) in
+              let one : added.local ≡ drop.local = let a = added.is_drop in let b = drop.is in let c = ap (slice_get steps) same in cc in
+              subst (λ p. is_reference (slice_get (op.params ++ op.vars) p) ≡ true) one added.refers
           | inr added ↦
-            let one : added.local ≡ drop.local = let a = added.is_drop in let b = drop.is in cc in
-            subst (λ p. is_reference (slice_get (op.params ++ op.vars) p) ≡ true) one added.refers
+              let one : added.local ≡ drop.local = let a = added.is_drop in let b = drop.is in cc in
+              subst (λ p. is_reference (slice_get (op.params ++ op.vars) p) ≡ true) one added.refers
         ];
         is_dead = dead_run steps drop.local (x - (w.at j + 1)) (w.at j + 1) x (omega (arith, before)) drop.is (λ v from to. st.drops v (omega (arith, from)) to);
         is_apart = λ step there. let is : step ≡ Drop next.local = let a = next.is in cc in ap is_use is;
@@ -88,11 +88,11 @@ module _ (op : OpDecl) (plain steps : List Step) (w : IsWithDrops op plain steps
       let within = late_within plain steps d next late in
       elim (w.added y (omega (arith, within, below))) [
         | inl (j, h, same) ↦
-          let e = length plain - suc j in
-          let enough = later j h same in
-          let there = later_of plain steps d (suc e) next (omega (arith, h, enough)) late in
-          let added = moved_later (suc e) e j there.0 (omega arith) (omega (arith, h)) there.1 (omega (arith, same, below, there.2)) in
-          subst (λ n. IsAddedDrop op steps n) same added
+            let e = length plain - suc j in
+            let enough = later j h same in
+            let there = later_of plain steps d (suc e) next (omega (arith, h, enough)) late in
+            let added = moved_later (suc e) e j there.0 (omega arith) (omega (arith, h)) there.1 (omega (arith, same, below, there.2)) in
+            subst (λ n. IsAddedDrop op steps n) same added
         | inr added ↦ added
       ]
 
@@ -101,9 +101,9 @@ module _ (op : OpDecl) (plain steps : List Step) (w : IsWithDrops op plain steps
       (λ j h same. elim (cases_lt i j) [
         | inl less ↦ omega (arith, less, at)
         | inr more ↦
-          let le = not_falling w.at (length plain) j i w.rises more (omega (arith, at)) in
-          let low = st.not_before in
-          absurd (omega (arith, le, low, same, from))
+            let le = not_falling w.at (length plain) j i w.rises more (omega (arith, at)) in
+            let low = st.not_before in
+            absurd (omega (arith, le, low, same, from))
       ])
 
   pub front_holds : (x : ℕ) → IsLate plain steps (length plain) x → AllAdded op steps 0 x
@@ -143,11 +143,11 @@ module _ (op : OpDecl) (plain steps : List Step) (w : IsWithDrops op plain steps
       let one : f.step ≡ jump.step = let a = f.here in let b = jump.here in cc in
       let here : x ≡ w.at i = elim (cases_lt (w.at i) x) [
         | inl before ↦
-          let drop = st.drops x before (omega arith) in
-          let is_drop : f.other ≡ Drop drop.local = let a = f.there in let b = drop.is in cc in
-          let plain_drop : f.step ≡ Drop drop.local = drop_is f.step drop.local (f.same ∙ ap opened is_drop) in
-          let none : None ≡ Some jump.t = ap jump_of (sym plain_drop ∙ one) ∙ j_from in
-          absurd cc
+            let drop = st.drops x before (omega arith) in
+            let is_drop : f.other ≡ Drop drop.local = let a = f.there in let b = drop.is in cc in
+            let plain_drop : f.step ≡ Drop drop.local = drop_is f.step drop.local (f.same ∙ ap opened is_drop) in
+            let none : None ≡ Some jump.t = ap jump_of (sym plain_drop ∙ one) ∙ j_from in
+            absurd cc
         | inr not_before ↦ omega (arith, low, not_before)
       ] in
       let stands = w.kept i jump.step jump.here in
@@ -157,6 +157,6 @@ module _ (op : OpDecl) (plain steps : List Step) (w : IsWithDrops op plain steps
       elim (jump.wrong) [
         | inl stuck ↦ never_stuck stuck
         | inr (z, is_front, differs) ↦
-          let same = front_is jump.t z (lands i jump.t jump.step jump.here j_from) target is_front in
-          differs (let a : front w.at jump.t ≡ jump.z = cc in sym a ∙ same)
+            let same = front_is jump.t z (lands i jump.t jump.step jump.here j_from) target is_front in
+            differs (let a : front w.at jump.t ≡ jump.z = cc in sym a ∙ same)
       ]

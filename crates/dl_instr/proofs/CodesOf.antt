@@ -61,17 +61,17 @@ module _ (op : OpDecl) (plain steps : List Step) (w : IsWithDrops op plain steps
   pub from_plain : (y z : ℕ) (step : Step) → slice_get steps y ≡ Some step → jump_of step ≡ Some z
       → (i : ℕ) × (t : ℕ) × (s : Step) × (slice_get plain i ≡ Some s) × (jump_of s ≡ Some t) × (t < length plain) × (front w.at t ≡ z) × (w.at i ≡ y)
   from_plain y z step there jumps = elim (w.added y (slice_get_within steps y step there)) [
-      | inl (i, h, same) ↦
+    | inl (i, h, same) ↦
         let s = some_at plain i h in
         let stands = w.kept i s.0 s.1 in
         let is : moved (front w.at) s.0 ≡ step = cc in
         let back = jump_back (front w.at) s.0 z (ap jump_of is ∙ jumps) in
         (i, back.0, s.0, s.1, back.1, lands i back.0 s.0 s.1 back.1, back.2, same)
-      | inr added ↦
+    | inr added ↦
         let is : Drop added.local ≡ step = let a = added.is_drop in cc in
         let none = sym (ap jump_of is) in
         absurd cc
-    ]
+  ]
 
   pub codes_land : JumpsLand steps
   codes_land y z step there jumps =

@@ -7,10 +7,10 @@ use Rattle.dl_instr.specs.Matching.{Fits, IsNearest, IsLate}
 module _ (plain steps : List Step) where
   one_nearest : (i next x y : ℕ) → IsNearest plain steps i next x → IsNearest plain steps i next y → x ≡ y
   one_nearest i next x y a b = elim (cases_order x y) [
-      | inl same ↦ same
-      | inr (inl less) ↦ absurd (a.last y less b.below b.fits)
-      | inr (inr more) ↦ absurd (b.last x more a.below a.fits)
-    ]
+    | inl same ↦ same
+    | inr (inl less) ↦ absurd (a.last y less b.below b.fits)
+    | inr (inr more) ↦ absurd (b.last x more a.below a.fits)
+  ]
 
   pub one_late : (d x y : ℕ) → IsLate plain steps d x → IsLate plain steps d y → x ≡ y
   one_late zero x y a b = a ∙ sym b
@@ -28,14 +28,14 @@ module _ (plain steps : List Step) where
       let same : 0 ≡ e = omega (arith, h) in
       (x, subst (λ n. IsLate plain steps n x) same late, omega arith)
   later_of (suc d) e x h late = elim (cases_lt d e) [
-      | inl less ↦
+    | inl less ↦
         let same : suc d ≡ e = omega (arith, h, less) in
         (x, subst (λ n. IsLate plain steps n x) same late, omega arith)
-      | inr more ↦
+    | inr more ↦
         let there = later_of d e late.0 more late.1 in
         let below = late.2.below in
         (there.0, there.1, omega (arith, there.2, below))
-    ]
+  ]
 
   pub later_above : (d e x y : ℕ) → e < d → IsLate plain steps d x → IsLate plain steps e y → x < y
   later_above zero e x y h late there = absurd (omega (arith, h))

@@ -48,11 +48,11 @@ module _ (op : OpDecl) (plain steps : List Step) (w : IsWithDrops op plain steps
             jumps = jump_on (front w.at) t.step (i + 1) t.jumps ∙ ap Some (front_next w.at i);
           },
           λ (t : IsTarget steps (w.at i + 1)).
-            let from = in_front (w.at i + 1) t in
-            let one = behind_one from.0 (w.at i) from.1 from.3 in
-            let same : one.0 ≡ i = taken_once w.at (length plain) one.0 i w.rises (omega (arith, from.1, one.1)) h one.2 in
-            let is : from.0 ≡ i + 1 = omega (arith, one.1, same) in
-            subst (λ n. IsTarget plain n) is from.2
+              let from = in_front (w.at i + 1) t in
+              let one = behind_one from.0 (w.at i) from.1 from.3 in
+              let same : one.0 ≡ i = taken_once w.at (length plain) one.0 i w.rises (omega (arith, from.1, one.1)) h one.2 in
+              let is : from.0 ≡ i + 1 = omega (arith, one.1, same) in
+              subst (λ n. IsTarget plain n) is from.2,
         );
       }
 
@@ -86,17 +86,17 @@ module _ (op : OpDecl) (plain steps : List Step) (w : IsWithDrops op plain steps
         free = λ u more k before target. elim (cases_lt i u) [
           | inl less ↦ free u less k (omega (arith, before, near.below)) target
           | inr eq ↦
-            let is : u ≡ i = omega (arith, more, eq) in
-            let there = in_front (x + 1) (near.fits.targets.0 (subst (λ n. IsTarget plain (n + 1)) is target)) in
-            let one = behind_one there.0 x there.1 there.3 in
-            let below : one.0 < length plain = omega (arith, there.1, one.1) in
-            let not_less : i ≤ one.0 = not_behind w.at (length plain) i one.0 w.rises h (omega (arith, le, one.2)) in
-            elim (cases_lt i one.0) [
-              | inl less ↦ free one.0 less below (omega (arith, one.2, near.below)) (subst (λ n. IsTarget plain n) one.1 there.2)
-              | inr not_more ↦
-                let same : one.0 ≡ u = omega (arith, not_less, not_more, is) in
-                omega (arith, ap w.at same, one.2, before)
-            ]
+              let is : u ≡ i = omega (arith, more, eq) in
+              let there = in_front (x + 1) (near.fits.targets.0 (subst (λ n. IsTarget plain (n + 1)) is target)) in
+              let one = behind_one there.0 x there.1 there.3 in
+              let below : one.0 < length plain = omega (arith, there.1, one.1) in
+              let not_less : i ≤ one.0 = not_behind w.at (length plain) i one.0 w.rises h (omega (arith, le, one.2)) in
+              elim (cases_lt i one.0) [
+                | inl less ↦ free one.0 less below (omega (arith, one.2, near.below)) (subst (λ n. IsTarget plain n) one.1 there.2)
+                | inr not_more ↦
+                    let same : one.0 ≡ u = omega (arith, not_less, not_more, is) in
+                    omega (arith, ap w.at same, one.2, before)
+              ]
         ];
       }
 
@@ -105,14 +105,14 @@ module _ (op : OpDecl) (plain steps : List Step) (w : IsWithDrops op plain steps
   stands_last i b x last end near =
       let ends : length steps ≡ w.at i + 1 = w.ends ∙ ap (front w.at) (sym last) ∙ front_next w.at i in
       stands i b x (omega (arith, last)) (omega (arith, end, ends)) (λ y from to. absurd (omega (arith, from, to, end, ends)))
-        (λ u more k before target. omega (arith, more, k, last)) near
+      (λ u more k before target. omega (arith, more, k, last)) near
 
   stands_before : (i b x : ℕ) → i + 1 < length plain → Stands (i + 1) b → IsNearest plain steps i b x → Stands i x
   stands_before i b x h next near =
       let up = w.rises i h in
       stands i b x (omega (arith, h)) (let le = next.not_before in omega (arith, up, le))
-        (λ y from to. elim (cases_order y (w.at (i + 1))) [
-          | inl same ↦
+      (λ y from to. elim (cases_order y (w.at (i + 1))) [
+        | inl same ↦
             let drop = next.drops b (omega (arith, same, to)) (omega arith) in
             let f = next.fits in
             let is_drop : f.other ≡ Drop drop.local = let a = f.there in let d = drop.is in cc in
@@ -121,10 +121,10 @@ module _ (op : OpDecl) (plain steps : List Step) (w : IsWithDrops op plain steps
               local = drop.local;
               is = ap (slice_get steps) same ∙ w.kept (i + 1) f.step f.here ∙ ap (λ s. Some (moved (front w.at) s)) plain_drop;
             }
-          | inr (inl before) ↦ gap i y h from before
-          | inr (inr behind) ↦ next.drops y behind (omega (arith, to))
-        ])
-        (λ u more k before target. next.free u (omega (arith, more)) k before target) near
+        | inr (inl before) ↦ gap i y h from before
+        | inr (inr behind) ↦ next.drops y behind (omega (arith, to))
+      ])
+      (λ u more k before target. next.free u (omega (arith, more)) k before target) near
 
   pub all_stand : (d i x : ℕ) → i + suc d ≡ length plain → IsLate plain steps (suc d) x → Stands i x
   all_stand zero i x at (next, late, near) =

@@ -7,3 +7,4 @@ mod Moved
 mod Paths
 mod PlainJumps
 mod Rising
+mod SameLists

@@ -22,25 +22,25 @@ module _ (op : OpDecl) (plain steps : List Step) where
   matched_at : (d e x : ℕ) → e ≤ d → IsMatched op plain steps d x → (y : ℕ) × IsMatched op plain steps e y
   matched_at zero e x h matched = (x, let same : 0 ≡ e = omega (arith, h) in subst (λ n. IsMatched op plain steps n x) same matched)
   matched_at (suc d) e x h matched = elim (cases_lt d e) [
-      | inl less ↦ (x, let same : suc d ≡ e = omega (arith, h, less) in subst (λ n. IsMatched op plain steps n x) same matched)
-      | inr more ↦ matched_at d e matched.0 more matched.1
-    ]
+    | inl less ↦ (x, let same : suc d ≡ e = omega (arith, h, less) in subst (λ n. IsMatched op plain steps n x) same matched)
+    | inr more ↦ matched_at d e matched.0 more matched.1
+  ]
 
   module _ (first : ℕ) (matched : IsMatched op plain steps (length plain) first) (before : AllAdded op steps 0 first) (some : 0 < length plain) where
     -- the latest place of each plain step
     place : ℕ → ℕ
     place i = elim (cases_lt (length plain) (length plain - i)) [
-        | inl less ↦ 0
-        | inr more ↦ (matched_at (length plain) (length plain - i) first more matched).0
-      ]
+      | inl less ↦ 0
+      | inr more ↦ (matched_at (length plain) (length plain - i) first more matched).0
+    ]
 
     placed : (i : ℕ) → IsMatched op plain steps (length plain - i) (place i)
     unfolding place
     placed i = elim (cases_lt (length plain) (length plain - i)) as (λ (e : (length plain < length plain - i) ⊎ (length plain - i ≤ length plain)).
         IsMatched op plain steps (length plain - i) (elim e [ inl less ↦ 0 | inr more ↦ (matched_at (length plain) (length plain - i) first more matched).0 ])) [
-        | inl less ↦ absurd (omega (arith, less))
-        | inr more ↦ (matched_at (length plain) (length plain - i) first more matched).1
-      ]
+          | inl less ↦ absurd (omega (arith, less))
+          | inr more ↦ (matched_at (length plain) (length plain - i) first more matched).1
+        ]
 
     -- what the checks tell of a plain step
     record Known (i : ℕ) : Type 0 where
@@ -85,8 +85,8 @@ module _ (op : OpDecl) (plain steps : List Step) where
             | inr (z, to) ↦ let back = both_jump f.other step z (sym alike) to in let b = back.1 in absurd cc
           ])
           | inr (t, from) ↦
-            let there = both_jump step f.other t alike from in
-            same_jump (front place) step f.other t there.0 alike from there.1 (front_at t there.0 (k.jump step f.other t there.0 is f.there from there.1))
+              let there = both_jump step f.other t alike from in
+              same_jump (front place) step f.other t there.0 alike from there.1 (front_at t there.0 (k.jump step f.other t there.0 is f.there from there.1))
         ])
 
     -- a place at or behind the place of a step is one of a later step, or of a step that may have been added
@@ -99,17 +99,17 @@ module _ (op : OpDecl) (plain steps : List Step) where
         elim (cases_lt y next) [
           | inl less ↦ elim (cases_eq x y) [
             | inl same ↦
-              let i = length plain - suc d in
-              let two : length plain - i ≡ suc d = omega (arith, h) in
-              let here = late_at i x (subst (λ n. IsLate plain steps n x) (sym two) (matched_late (suc d) x m)) in
-              inl (record { 0 = i; 1 = omega (arith, h); 2 = sym here ∙ same })
+                let i = length plain - suc d in
+                let two : length plain - i ≡ suc d = omega (arith, h) in
+                let here = late_at i x (subst (λ n. IsLate plain steps n x) (sym two) (matched_late (suc d) x m)) in
+                inl (record { 0 = i; 1 = omega (arith, h); 2 = sym here ∙ same })
             | inr differs ↦ inr (all y (above x y from differs) less)
           ]
           | inr more ↦ covered d next y behind (omega (arith, h)) more to
         ]
       where
-      above : (x y : ℕ) → x ≤ y → (x ≡ y → ⊥) → x + 1 ≤ y
-      above x y from differs = elim (cases_lt x y) [ inl less ↦ omega (arith, less) | inr more ↦ absurd (differs (omega (arith, from, more))) ]
+        above : (x y : ℕ) → x ≤ y → (x ≡ y → ⊥) → x + 1 ≤ y
+        above x y from differs = elim (cases_lt x y) [ inl less ↦ omega (arith, less) | inr more ↦ absurd (differs (omega (arith, from, more))) ]
 
     ends_at : (m : ℕ) → m + 1 ≡ length plain → length steps ≡ front place (length plain)
     ends_at m end =

@@ -27,17 +27,17 @@ not_more (suc n) to xs = omega (arith, falls (to == n) (is_among n xs), not_more
 pub fewer : (n to : ℕ) (xs : List ℕ) → to < n → is_among to xs ≡ false → missing n (to ∷ xs) < missing n xs
 fewer zero to xs h new = absurd (omega (arith, h))
 fewer (suc n) to xs h new = elim (cases_eq to n) [
-    | inl same ↦
+  | inl same ↦
       let here : ◌≡◌ {A = ℕ} (cond (to == n || is_among n xs) 0 1) 0 = ap (λ b. cond {A = ℕ} (b || is_among n xs) 0 1) (eq-eqb to n same) in
       let there : ◌≡◌ {A = ℕ} (cond (is_among n xs) 0 1) 1 = ap (λ b. cond {A = ℕ} b 0 1) (ap (λ m. is_among m xs) (sym same) ∙ new) in
       omega (arith, here, there, not_more n to xs)
-    | inr differs ↦
+  | inr differs ↦
       let rest = fewer n to xs (below to n h differs) new in
       omega (arith, falls (to == n) (is_among n xs), rest)
-  ]
+]
   where
-  below : (a n : ℕ) → a < suc n → (a ≡ n → ⊥) → a < n
-  below a n h differs = elim (cases_lt a n) [ inl less ↦ less | inr more ↦ absurd (differs (omega (arith, h, more))) ]
+    below : (a n : ℕ) → a < suc n → (a ≡ n → ⊥) → a < n
+    below a n h differs = elim (cases_lt a n) [ inl less ↦ less | inr more ↦ absurd (differs (omega (arith, h, more))) ]
 
 read_within : (steps : List Step) (local at : ℕ) → IsReadFrom steps local at → at < length steps
 read_within steps local at (IsReadFrom.here {step = s} there read) = slice_get_within steps at s there
@@ -49,17 +49,17 @@ pub none_later : (steps : List Step) (local : ℕ) (reached : List ℕ) → AllC
 none_later steps local reached closed none at among (IsReadFrom.here {step = s} there read) = let unread = none at among s there in absurd cc
 none_later steps local reached closed none at among (IsReadFrom.later {next = n} {step = s} there unset on rest) =
     none_later steps local reached closed none n
-      (closed at among n (record { step = s; there = there; unset = unset; on = on }) (read_within steps local n rest)) rest
+    (closed at among n (record { step = s; there = there; unset = unset; on = on }) (read_within steps local n rest)) rest
 
 -- what is read from a place to which paths go on is read from where they come from
 pub some_before : (steps : List Step) (local to : ℕ) (reached : List ℕ) → SomeNew steps local reached reached to → IsReadFromSome steps local (to ∷ reached)
     → IsReadFromSome steps local reached
 some_before steps local to reached (from, among, new) (at, is, path) = elim (or_cases (to == at) (is_among at reached) is) [
-    | inl same ↦
+  | inl same ↦
       let go = new.goes in
       (from, among, IsReadFrom.later {step = go.step} go.there go.unset go.on (subst (λ n. IsReadFrom steps local n) (sym (eqb-true to at same)) path))
-    | inr there ↦ (at, there, path)
-  ]
+  | inr there ↦ (at, there, path)
+]
 
 or_true : (a b : Bool) → b ≡ true → (a || b) ≡ true
 or_true true b is = refl
@@ -73,9 +73,9 @@ reads_some steps local reached (at, among, (step, there, read)) = (at, among, Is
 
 among_cases : (place at : ℕ) (xs rest : List ℕ) → xs ≡ place ∷ rest → is_among at xs ≡ true → (place ≡ at) ⊎ (is_among at rest ≡ true)
 among_cases place at xs rest is among = elim (or_cases (place == at) (is_among at rest) (ap (is_among at) (sym is) ∙ among)) [
-    | inl same ↦ inl (eqb-true place at same)
-    | inr there ↦ inr there
-  ]
+  | inl same ↦ inl (eqb-true place at same)
+  | inr there ↦ inr there
+]
 
 among_more : (place at : ℕ) (xs rest : List ℕ) → xs ≡ place ∷ rest → is_among at rest ≡ true → is_among at xs ≡ true
 among_more place at xs rest is among = ap (is_among at) is ∙ or_true (place == at) (is_among at rest) among
@@ -85,9 +85,9 @@ pub next_more : (steps : List Step) (local place : ℕ) (some rest reached : Lis
     → MatchOption found (AllClosed steps local rest reached) (SomeNew steps local rest reached)
     → MatchOption found (AllClosed steps local some reached) (SomeNew steps local some reached)
 next_more steps local place some rest reached None is closed all = λ at among. elim (among_cases place at some rest is among) [
-    | inl same ↦ subst (λ n. IsClosed steps local reached n) same closed
-    | inr there ↦ all at there
-  ]
+  | inl same ↦ subst (λ n. IsClosed steps local reached n) same closed
+  | inr there ↦ all at there
+]
 next_more steps local place some rest reached (Some to) is closed (from, among, new) = (from, among_more place from some rest is among, new)
 
 pub places_at : (place : ℕ) (rest : Bor Reached) → places_of (At place rest) ≡ place ∷ places_of rest.now
@@ -104,9 +104,9 @@ one_more_place steps local to reached more false is new none = none_before steps
 pub from_one : (steps : List Step) (local at : ℕ) (places : List ℕ) (found : Bool) → places ≡ at ∷ []
     → MatchBool found (IsReadFromSome steps local places) (IsReadFromNone steps local places) → MatchBool found (IsReadFrom steps local at) (IsReadFrom steps local at → ⊥)
 from_one steps local at places true is (from, among, path) = elim (among_cases at from places [] is among) [
-    | inl same ↦ subst (λ n. IsReadFrom steps local n) (sym same) path
-    | inr none ↦ absurd cc
-  ]
+  | inl same ↦ subst (λ n. IsReadFrom steps local n) (sym same) path
+  | inr none ↦ absurd cc
+]
 from_one steps local at places false is none = λ path. none at (ap (is_among at) is ∙ ap (λ b. b || false) (eq-eqb at at refl)) path
 
 pub places_none : places_of Nowhere ≡ []

@@ -42,8 +42,8 @@ row_lands part rest a b first =
     let n = length (part first) in
     let all = length-append (part first) (in_row rest (first + n)) in
     in_both (part first) (in_row rest (first + n)) (first + length (part first ++ in_row rest (first + n)))
-      (up_to (part first) (first + n) (first + length (part first ++ in_row rest (first + n))) (omega (arith, all)) (a first))
-      (up_to (in_row rest (first + n)) (first + n + length (in_row rest (first + n))) (first + length (part first ++ in_row rest (first + n))) (omega (arith, all)) (b (first + n)))
+    (up_to (part first) (first + n) (first + length (part first ++ in_row rest (first + n))) (omega (arith, all)) (a first))
+    (up_to (in_row rest (first + n)) (first + n + length (in_row rest (first + n))) (first + length (part first ++ in_row rest (first + n))) (omega (arith, all)) (b (first + n)))
 
 no_row : Lands (in_row [])
 unfolding Lands
@@ -54,8 +54,8 @@ unfolding Lands
 if_lands c block a first =
     let limit = first + length (if_code c block first) in
     with_first (Test c false (first + 1 + length (block (first + 1)))) (block (first + 1)) limit
-      (λ place is. let same : first + 1 + length (block (first + 1)) ≡ place = cc in omega (arith, same))
-      (up_to (block (first + 1)) (first + 1 + length (block (first + 1))) limit (omega arith) (a (first + 1)))
+    (λ place is. let same : first + 1 + length (block (first + 1)) ≡ place = cc in omega (arith, same))
+    (up_to (block (first + 1)) (first + 1 + length (block (first + 1))) limit (omega arith) (a (first + 1)))
 
 if_else_lands : (c : Cond) (block other : Placed) → Lands block → Lands other → Lands (if_else_code c block other)
 unfolding Lands
@@ -65,11 +65,11 @@ if_else_lands c block other a b first =
     let jump = Jump (second + length (other second)) in
     let all = length-append (block (first + 1)) (jump ∷ other second) in
     with_first (Test c false second) (block (first + 1) ++ jump ∷ other second) limit
-      (λ place is. let same : second ≡ place = cc in omega (arith, same, all))
-      (in_both (block (first + 1)) (jump ∷ other second) limit
-        (up_to (block (first + 1)) (first + 1 + length (block (first + 1))) limit (omega (arith, all)) (a (first + 1)))
-        (with_first jump (other second) limit (λ place is. let same : second + length (other second) ≡ place = cc in omega (arith, same, all))
-          (up_to (other second) (second + length (other second)) limit (omega (arith, all)) (b second))))
+    (λ place is. let same : second ≡ place = cc in omega (arith, same, all))
+    (in_both (block (first + 1)) (jump ∷ other second) limit
+    (up_to (block (first + 1)) (first + 1 + length (block (first + 1))) limit (omega (arith, all)) (a (first + 1)))
+    (with_first jump (other second) limit (λ place is. let same : second + length (other second) ≡ place = cc in omega (arith, same, all))
+    (up_to (other second) (second + length (other second)) limit (omega (arith, all)) (b second))))
 
 while_lands : (c : Cond) (body : Placed) → Lands body → Lands (while_code c body)
 unfolding Lands
@@ -79,10 +79,10 @@ while_lands c body a first =
     let back : List Step = Jump first ∷ [] in
     let all = length-append (body (first + 1)) back in
     with_first (Test c true end) (body (first + 1) ++ back) limit
-      (λ place is. let same : end ≡ place = cc in omega (arith, same, all))
-      (in_both (body (first + 1)) back limit
-        (up_to (body (first + 1)) (first + 1 + length (body (first + 1))) limit (omega (arith, all)) (a (first + 1)))
-        (with_first (Jump first) [] limit (λ place is. let same : first ≡ place = cc in omega (arith, same)) (none_within limit)))
+    (λ place is. let same : end ≡ place = cc in omega (arith, same, all))
+    (in_both (body (first + 1)) back limit
+    (up_to (body (first + 1)) (first + 1 + length (body (first + 1))) limit (omega (arith, all)) (a (first + 1)))
+    (with_first (Jump first) [] limit (λ place is. let same : first ≡ place = cc in omega (arith, same)) (none_within limit)))
 
 -- a step without a jump is within each limit
 stays_in : (s : Step) (ss : List Step) (limit : ℕ) → jump_of s ≡ None → Within ss limit → Within (s ∷ ss) limit

@@ -25,24 +25,24 @@ rising f n i (suc j) rises h k =
 
 pub not_falling : (f : ℕ → ℕ) (n i j : ℕ) → Rises f n → i ≤ j → j < n → f i ≤ f j
 not_falling f n i j rises h k = elim (cases_lt i j) [
-    | inl less ↦ let up = rising f n i j rises less k in omega (arith, up)
-    | inr more ↦ let same : i ≡ j = omega (arith, h, more) in omega (arith, ap f same)
-  ]
+  | inl less ↦ let up = rising f n i j rises less k in omega (arith, up)
+  | inr more ↦ let same : i ≡ j = omega (arith, h, more) in omega (arith, ap f same)
+]
 
 -- the function takes no value twice
 pub taken_once : (f : ℕ → ℕ) (n i j : ℕ) → Rises f n → i < n → j < n → f i ≡ f j → i ≡ j
 taken_once f n i j rises h k same = elim (cases_order i j) [
-    | inl is ↦ is
-    | inr (inl less) ↦ let up = rising f n i j rises less k in absurd (omega (arith, up, same))
-    | inr (inr more) ↦ let up = rising f n j i rises more h in absurd (omega (arith, up, same))
-  ]
+  | inl is ↦ is
+  | inr (inl less) ↦ let up = rising f n i j rises less k in absurd (omega (arith, up, same))
+  | inr (inr more) ↦ let up = rising f n j i rises more h in absurd (omega (arith, up, same))
+]
 
 -- where the function is not behind, neither was the number
 pub not_behind : (f : ℕ → ℕ) (n i j : ℕ) → Rises f n → i < n → f i ≤ f j → i ≤ j
 not_behind f n i j rises h le = elim (cases_lt j i) [
-    | inl less ↦ let up = rising f n j i rises less h in absurd (omega (arith, up, le))
-    | inr more ↦ more
-  ]
+  | inl less ↦ let up = rising f n j i rises less h in absurd (omega (arith, up, le))
+  | inr more ↦ more
+]
 
 -- what is in front of a number below the bound lies below what is in front of the bound
 pub front_below : (f : ℕ → ℕ) (n i : ℕ) → Rises f n → i < n → front f i < front f n

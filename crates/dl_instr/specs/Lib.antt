@@ -3,3 +3,4 @@ pub mod Drops
 pub mod DropsLaws
 pub mod Matching
 pub mod Paths
+pub mod Shown

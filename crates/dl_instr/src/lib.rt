@@ -7,6 +7,7 @@ mod copies;
 mod generator;
 mod laws;
 mod liveness;
+mod plain;
 mod same;
 mod steps;
 

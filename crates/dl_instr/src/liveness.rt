@@ -9,10 +9,7 @@ use dl_ir::{Cond, OpDecl, RefSide, Ty};
 #[derive(Drop)]
 pub(crate) enum Reached<'a> {
     Nowhere,
-    At {
-        place: usize,
-        rest: &'a Reached<'a>,
-    },
+    At { place: usize, rest: &'a Reached<'a> },
 }
 
 fn is_side(local: u32, side: RefSide) -> bool
@@ -35,7 +32,9 @@ fn reads(local: u32, step: &Step) -> bool
             Origin::Local(q) => *q == local,
         },
         Step::Write {
-            local: q, content, ..
+            local: q,
+            content,
+            ..
         } => match content {
             Content::Number => *q == local,
             Content::Local(p) => *q == local || *p == local,

@@ -1,8 +1,6 @@
 ghost use Rattle.std.specs.Prelude.{◌≡◌, ◌↔◌, IsTrue};
 
-use dl_ir::{
-    Block, Cond, Expr, FieldDecl, KindDecl, LocalDecl, Module, OpDecl, Stmt, Text,
-};
+use dl_ir::{Block, Cond, Expr, FieldDecl, KindDecl, LocalDecl, Module, OpDecl, Stmt, Text};
 
 pub(crate) fn same_expr(a: &Expr, b: &Expr) -> bool
     ensures { IsTrue result ↔ (a.now ≡ b.now) }
@@ -125,10 +123,94 @@ fn same_block(a: &Block, b: &Block) -> bool
     if a.len() != b.len() {
         return false;
     }
-    for (s, t) in a.as_slice().iter().zip(b.as_slice()) {
-        if !same_stmt(s, t) {
-            return false;
+    for (i, s) in a.as_slice().iter().enumerate() {
+        match b.get(i) {
+            None => return false,
+            Some(t) => {
+                if !same_stmt(s, t) {
+                    return false;
+                }
+            }
         }
     }
     true
+}
+
+// What a list may be compared of.
+trait Same {
+    fn same(&self, other: &Self) -> bool
+        ensures { IsTrue result ↔ (self.now ≡ other.now) };
+}
+
+fn same_lists<T: Same>(a: &[T], b: &[T]) -> bool
+    ensures { IsTrue result ↔ (a.now ≡ b.now) }
+{
+    if a.len() != b.len() {
+        return false;
+    }
+    for (i, s) in a.iter().enumerate() {
+        match b.get(i) {
+            None => return false,
+            Some(t) => {
+                if !s.same(t) {
+                    return false;
+                }
+            }
+        }
+    }
+    true
+}
+
+impl Same for u8 {
+    fn same(&self, other: &Self) -> bool {
+        *self == *other
+    }
+}
+
+fn same_text(a: &Text, b: &Text) -> bool
+    ensures { IsTrue result ↔ (a.now ≡ b.now) }
+{
+    same_lists(a.as_slice(), b.as_slice())
+}
+
+impl Same for FieldDecl {
+    fn same(&self, other: &Self) -> bool {
+        same_text(&self.name, &other.name) && self.ty == other.ty
+    }
+}
+
+impl Same for LocalDecl {
+    fn same(&self, other: &Self) -> bool {
+        same_text(&self.name, &other.name) && self.ty == other.ty
+    }
+}
+
+impl Same for KindDecl {
+    fn same(&self, other: &Self) -> bool {
+        same_text(&self.name, &other.name)
+            && self.is_root == other.is_root
+            && self.first == other.first
+            && self.count == other.count
+            && same_lists(self.fields.as_slice(), other.fields.as_slice())
+    }
+}
+
+impl Same for OpDecl {
+    fn same(&self, other: &Self) -> bool {
+        same_text(&self.name, &other.name)
+            && same_lists(self.params.as_slice(), other.params.as_slice())
+            && same_lists(self.vars.as_slice(), other.vars.as_slice())
+            && self.allocs == other.allocs
+            && self.fuel == other.fuel
+            && same_block(&self.body, &other.body)
+    }
+}
+
+/// Whether two modules are the same.
+pub(crate) fn same_module(a: &Module, b: &Module) -> bool
+    ensures { IsTrue result ↔ (a.now ≡ b.now) }
+{
+    a.version == b.version
+        && same_lists(a.kinds.as_slice(), b.kinds.as_slice())
+        && same_lists(a.ops.as_slice(), b.ops.as_slice())
 }
