@@ -6,5 +6,10 @@ mod Matched
 mod Moved
 mod Paths
 mod PlainJumps
+mod PlainSteps
 mod Rising
 mod SameLists
+pub mod Jumps
+pub mod Loops
+pub mod Operands
+pub mod Patches

@@ -8,7 +8,7 @@ use Rattle.dl_ir.specs.declared.statements.Stmt.TheFolds.{fold-Stmt, fold-roll-S
 use Rattle.dl_instr.specs.declared.steps.Step.{Step}
 use Rattle.dl_instr.specs.declared.steps.Step.TheVariants.{Test, Jump, Give}
 use Rattle.dl_instr.specs.Code.{Placed, stmt_code, block_code, op_code, steps_of, in_row, if_code, if_else_code, while_code}
-use Rattle.dl_instr.specs.Drops.{JumpsLand, jump_of}
+use Rattle.dl_instr.specs.Drops.{EachJumpLands, jump_of}
 
 -- the jumps of the steps go to places up to a limit
 Within : List Step → ℕ → Type 0
@@ -120,7 +120,7 @@ block_lands : (block : List Stmt) → Lands (block_code block)
 block_lands [] = no_row
 block_lands (d ∷ block) = row_lands (stmt_code d) (map stmt_code block) (stmt_lands d) (block_lands block)
 
-pub plain_lands : (op : OpDecl) → JumpsLand (op_code op)
+pub plain_lands : (op : OpDecl) → EachJumpLands (op_code op)
 unfolding Within Lands
 plain_lands op at place step is jumps =
     let body = block_code op.body 0 in

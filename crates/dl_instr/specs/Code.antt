@@ -25,15 +25,23 @@ in_row (part ∷ rest) first = part first ++ in_row rest (first + length (part f
 abbrev pub if_code : Cond → Placed → Placed
 if_code c block first = Test c false (first + 1 + length (block (first + 1))) ∷ block (first + 1)
 
--- a test that goes on at the second block where it is false; at the end of the first block a jump goes behind the second
+-- a test, the block that it guards and a last step; where the test is false it goes on behind them
+abbrev pub tested : Cond → Bool → Placed → Step → Placed
+tested c is_turn block last first = Test c is_turn (first + 1 + length (block (first + 1)) + 1) ∷ block (first + 1) ++ last ∷ []
+
+-- a block behind a jump over it, where the block has this first place
+abbrev pub skipped : Placed → Placed
+skipped block first = Jump (first + length (block first)) ∷ block first
+
+-- a test and two blocks: the first ends with a jump over the second, and the second is where the test goes on if it is false
 abbrev pub if_else_code : Cond → Placed → Placed → Placed
 if_else_code c block other first =
     let second = first + 1 + length (block (first + 1)) + 1 in
-    Test c false second ∷ block (first + 1) ++ Jump (second + length (other second)) ∷ other second
+    Test c false second ∷ block (first + 1) ++ skipped other second
 
--- a loop's test that goes on behind the loop where it is false; at the end of the body a jump goes back to the test
+-- a loop's test, and a body that ends with a jump back to it
 abbrev pub while_code : Cond → Placed → Placed
-while_code c body first = Test c true (first + 1 + length (body (first + 1)) + 1) ∷ body (first + 1) ++ Jump first ∷ []
+while_code c body first = tested c true body (Jump first) first
 
 -- the steps of a statement, the statements in it being replaced by their steps
 abbrev pub steps_of : Stmt-F Placed → Placed

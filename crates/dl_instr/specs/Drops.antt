@@ -113,5 +113,5 @@ jump_of (Jump place) = Some place
 jump_of step = None
 
 -- each jump of the steps lands on one of them
-abbrev pub JumpsLand : List Step → Type 0
-JumpsLand steps = (at place : ℕ) (step : Step) → slice_get steps at ≡ Some step → jump_of step ≡ Some place → place < length steps
+abbrev pub EachJumpLands : List Step → Type 0
+EachJumpLands steps = (at place : ℕ) (step : Step) → slice_get steps at ≡ Some step → jump_of step ≡ Some place → place < length steps

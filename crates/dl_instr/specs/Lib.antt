@@ -4,3 +4,5 @@ pub mod DropsLaws
 pub mod Matching
 pub mod Paths
 pub mod Shown
+pub mod Jumps
+pub mod Listing

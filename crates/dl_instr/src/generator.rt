@@ -1,7 +1,8 @@
-ghost use Rattle.std.specs.Prelude.{◌≡◌, [], ◌∷◌, ◌++◌, ◌<◌, false, true, IfOk, OnOk, length, slice_set};
-ghost use Rattle.dl_instr.specs.Code.{stmt_code, block_code, op_code, code, if_code, if_else_code, while_code};
-ghost use Rattle.dl_ir.specs.declared.statements.Stmt.TheVariants.{If};
-ghost use Rattle.dl_instr.specs.declared.steps.Step.TheVariants.{Read, Want, Eval, Test};
+ghost use Rattle.std.specs.Prelude.{◌≡◌, List, [], ◌∷◌, ◌++◌, ◌<◌, IfOk, OnOk, length, slice_set};
+ghost use Rattle.dl_instr.specs.Code.{stmt_code, block_code, op_code, code, if_code, tested, skipped};
+ghost use Rattle.dl_instr.specs.declared.steps.Step.{Step};
+ghost use Rattle.dl_instr.specs.declared.steps.Step.TheVariants.{Read, Want, Set, Eval, Write, Test};
+ghost use Rattle.dl_instr.specs.declared.steps.Origin.TheVariants.{Hand, Local};
 
 use crate::code::Code;
 use crate::copies::{copy_cond, copy_expr, copy_module};
@@ -9,6 +10,41 @@ use crate::steps::{Content, Origin, Step, Steps};
 use dl_ir::{Block, Cond, Expr, Module, OpDecl, Stmt};
 use sqlite_items::Items;
 use std::alloc::{AllocError, Global};
+
+fn read(local: u32, field: u32) -> Step
+    ensures { result ≡ Read local field }
+{
+    Step::Read { local, field }
+}
+
+// The local gets what the hand holds.
+fn set(local: u32) -> Step
+    ensures { result ≡ Set local Hand }
+{
+    Step::Set {
+        local,
+        from: Origin::Hand,
+    }
+}
+
+fn copy(local: u32, other: u32) -> Step
+    ensures { result ≡ Set local (Local other) }
+{
+    Step::Set {
+        local,
+        from: Origin::Local(other),
+    }
+}
+
+fn write(local: u32, field: u32, content: Content) -> Step
+    ensures { result ≡ Write local field content }
+{
+    Step::Write {
+        local,
+        field,
+        content,
+    }
+}
 
 fn push_two(steps: &mut Steps, first: Step, second: Step) -> Result<(), AllocError>
     ensures { OnOk result (steps.new ≡ steps.old ++ first ∷ second ∷ []) }
@@ -21,7 +57,7 @@ fn push_two(steps: &mut Steps, first: Step, second: Step) -> Result<(), AllocErr
 fn push_read(steps: &mut Steps, local: u32, field: u32, last: Step) -> Result<(), AllocError>
     ensures { OnOk result (steps.new ≡ steps.old ++ Read local field ∷ Want ∷ last ∷ []) }
 {
-    steps.push(Step::Read { local, field })?;
+    steps.push(read(local, field))?;
     push_two(steps, Step::Want, last)
 }
 
@@ -61,80 +97,26 @@ fn add_stmt(alloc: Global, steps: &mut Steps, s: &Stmt) -> Result<(), AllocError
     ensures { OnOk result (steps.new ≡ steps.old ++ stmt_code s.now (length steps.old)) }
 {
     match s {
-        Stmt::SetInt { x, e } => push_eval(
-            alloc,
-            steps,
-            e,
-            Step::Set {
-                local: *x,
-                from: Origin::Hand,
-            },
-        ),
-        Stmt::Load { x, p, f } => push_two(
-            steps,
-            Step::Read {
-                local: *p,
-                field: *f,
-            },
-            Step::Set {
-                local: *x,
-                from: Origin::Hand,
-            },
-        ),
-        Stmt::Store { p, f, e } => push_eval(
-            alloc,
-            steps,
-            e,
-            Step::Write {
-                local: *p,
-                field: *f,
-                content: Content::Number,
-            },
-        ),
-        Stmt::Copy { p, q } => steps.push(Step::Set {
-            local: *p,
-            from: Origin::Local(*q),
-        }),
+        Stmt::SetInt { x, e } => push_eval(alloc, steps, e, set(*x)),
+        Stmt::Load { x, p, f } => push_two(steps, read(*p, *f), set(*x)),
+        Stmt::Store { p, f, e } => push_eval(alloc, steps, e, write(*p, *f, Content::Number)),
+        Stmt::Copy { p, q } => steps.push(copy(*p, *q)),
         Stmt::Null { p } => steps.push(Step::Drop { local: *p }),
-        Stmt::Follow { p, q, f } => push_read(
-            steps,
-            *q,
-            *f,
-            Step::Set {
-                local: *p,
-                from: Origin::Hand,
-            },
-        ),
-        Stmt::New { p, kind } => push_two(
-            steps,
-            Step::Make { kind: *kind },
-            Step::Set {
-                local: *p,
-                from: Origin::Hand,
-            },
-        ),
-        Stmt::Link { q, f, p } => push_read(
-            steps,
-            *q,
-            *f,
-            Step::Write {
-                local: *q,
-                field: *f,
-                content: Content::Local(*p),
-            },
-        ),
-        Stmt::Cut { q, f } => push_read(
-            steps,
-            *q,
-            *f,
-            Step::Write {
-                local: *q,
-                field: *f,
-                content: Content::Null,
-            },
-        ),
-        Stmt::If { c, yes, no } => add_if(alloc, steps, c, yes, no),
-        Stmt::While { c, body } => add_while(alloc, steps, c, body),
+        Stmt::Follow { p, q, f } => push_read(steps, *q, *f, set(*p)),
+        Stmt::New { p, kind } => push_two(steps, Step::Make { kind: *kind }, set(*p)),
+        Stmt::Link { q, f, p } => push_read(steps, *q, *f, write(*q, *f, Content::Local(*p))),
+        Stmt::Cut { q, f } => push_read(steps, *q, *f, write(*q, *f, Content::Null)),
+        Stmt::If { c, yes, no } => {
+            if no.is_empty() {
+                return add_if(alloc, steps, c, yes);
+            }
+            add_tested(alloc, steps, c, false, yes, Step::Want)?;
+            add_other(alloc, steps, no)
+        }
+        Stmt::While { c, body } => {
+            let place = steps.len();
+            add_tested(alloc, steps, c, true, body, Step::Jump { place })
+        }
         Stmt::Return { e } => {
             let value = copy_expr(alloc, e)?;
             steps.push(Step::Give { value })
@@ -153,31 +135,9 @@ fn add_block(alloc: Global, steps: &mut Steps, block: &Block) -> Result<(), Allo
     Ok(())
 }
 
+// Adds a test, and the block that it guards. A step stands in for the test until its place is known.
 #[cycle(statements)]
-fn add_if(
-    alloc: Global,
-    steps: &mut Steps,
-    cond: &Cond,
-    block: &Block,
-    other: &Block,
-) -> Result<(), AllocError>
-    ensures { OnOk result (steps.new ≡ steps.old ++ stmt_code (If cond.now block.now other.now) (length steps.old)) }
-{
-    if other.is_empty() {
-        add_if_alone(alloc, steps, cond, block)
-    } else {
-        add_if_else(alloc, steps, cond, block, other)
-    }
-}
-
-// Adds a test, and the block that it guards. Where a place is not known yet, a step stands in until it is.
-#[cycle(statements)]
-fn add_if_alone(
-    alloc: Global,
-    steps: &mut Steps,
-    cond: &Cond,
-    block: &Block,
-) -> Result<(), AllocError>
+fn add_if(alloc: Global, steps: &mut Steps, cond: &Cond, block: &Block) -> Result<(), AllocError>
     ensures { OnOk result (steps.new ≡ steps.old ++ if_code cond.now (block_code block.now) (length steps.old)) }
 {
     let test = steps.len();
@@ -186,37 +146,36 @@ fn add_if_alone(
     put_test(alloc, steps, test, cond, false)
 }
 
+// Adds a test, the block that it guards, and a last step.
 #[cycle(statements)]
-fn add_if_else(
+fn add_tested(
     alloc: Global,
     steps: &mut Steps,
     cond: &Cond,
+    is_turn: bool,
     block: &Block,
-    other: &Block,
+    last: Step,
 ) -> Result<(), AllocError>
-    ensures { OnOk result (steps.new ≡ steps.old ++ if_else_code cond.now (block_code block.now) (block_code other.now) (length steps.old)) }
+    ensures { OnOk result (steps.new ≡ steps.old ++ tested cond.now is_turn (block_code block.now) last (length steps.old)) }
 {
     let test = steps.len();
     steps.push(Step::Want)?;
     add_block(alloc, steps, block)?;
-    let jump = steps.len();
-    steps.push(Step::Want)?;
-    put_test(alloc, steps, test, cond, false)?;
-    add_block(alloc, steps, other)?;
+    steps.push(last)?;
+    put_test(alloc, steps, test, cond, is_turn)
+}
+
+// Adds a block behind a step that stands in for the jump over it.
+#[cycle(statements)]
+fn add_other(alloc: Global, steps: &mut Steps, block: &Block) -> Result<(), AllocError>
+    requires { 0 < length steps.old }
+    ensures { (front : List Step) → (last : Step) → steps.old ≡ front ++ last ∷ [] → OnOk result (steps.new ≡ front ++ skipped (block_code block.now) (length steps.old)) }
+{
+    let jump = steps.len() - 1;
+    add_block(alloc, steps, block)?;
     let place = steps.len();
     steps.set(jump, Step::Jump { place });
     Ok(())
-}
-
-#[cycle(statements)]
-fn add_while(alloc: Global, steps: &mut Steps, cond: &Cond, body: &Block) -> Result<(), AllocError>
-    ensures { OnOk result (steps.new ≡ steps.old ++ while_code cond.now (block_code body.now) (length steps.old)) }
-{
-    let test = steps.len();
-    steps.push(Step::Want)?;
-    add_block(alloc, steps, body)?;
-    steps.push(Step::Jump { place: test })?;
-    put_test(alloc, steps, test, cond, true)
 }
 
 // The steps of an operation.

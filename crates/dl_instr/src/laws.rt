@@ -1,7 +1,6 @@
-ghost use Rattle.dl_instr.specs.DropsLaws.{PlainIsCode, JumpsOfCodesLand};
+ghost use Rattle.dl_instr.specs.Jumps.{JumpsOfCodeLand};
 
-/// That the plain code of a module is a code of it, and that in each code of a module each jump lands on a step of its operation.
-pub fn codes_of_modules()
-    ensures plain { PlainIsCode }
-    ensures jumps { JumpsOfCodesLand }
+/// That every jump of the code of a module lands on a step of its operation.
+pub fn jumps_land()
+    ensures { JumpsOfCodeLand }
 {}

@@ -3,15 +3,26 @@
 #![tactic(auto)]
 
 mod code;
+mod conditions;
 mod copies;
+mod drops;
+mod expressions;
 mod generator;
 mod laws;
+mod listing;
 mod liveness;
+mod names;
 mod plain;
 mod same;
 mod steps;
+#[cfg(test)]
+mod test_modules;
+#[cfg(test)]
+mod tests;
 
 pub use code::Code;
+pub use drops::codes_of_modules;
 pub use generator::instrument;
-pub use laws::codes_of_modules;
+pub use laws::jumps_land;
+pub use listing::print_code;
 pub use steps::{Content, Origin, Step, Steps};

@@ -1,9 +1,9 @@
 ghost use Rattle.std.specs.Prelude.{◌≡◌, ◌<◌, ◌≤◌, ◌+◌, ◌^◌, ◌∷◌, [], false, true, length, slice_get, MatchOption};
 ghost use Rattle.std.specs.Option.{option_map};
-ghost use Rattle.dl_instr.specs.Code.{stmt_code, block_code, op_code, if_code, if_else_code, while_code};
+ghost use Rattle.dl_instr.specs.Code.{stmt_code, block_code, op_code};
 ghost use Rattle.dl_instr.specs.Shown.{shown};
-ghost use Rattle.dl_ir.specs.declared.statements.Stmt.TheVariants.{If};
-ghost use Rattle.dl_instr.specs.declared.steps.Step.TheVariants.{Read, Want};
+ghost use Rattle.dl_instr.specs.declared.steps.Step.TheVariants.{Read, Want, Set, Write, Test};
+ghost use Rattle.dl_instr.specs.declared.steps.Origin.TheVariants.{Hand, Local};
 
 use crate::steps::{Content, Origin};
 use dl_ir::{Block, Cond, Expr, OpDecl, Stmt};
@@ -49,6 +49,17 @@ pub(crate) enum PlainStep<'a> {
     GiveZero,
 }
 
+// The place behind a block, where a test stands before the block.
+#[cycle(ends)]
+fn inner_end(block: &Block, test: usize) -> Option<usize>
+    ensures { MatchOption result (2 ^ 64 ≤ test + 1 + length (block_code block.now (test + 1))) (λ end. end ≡ test + 1 + length (block_code block.now (test + 1))) }
+{
+    match test.checked_add(1) {
+        None => None,
+        Some(first) => block_end(block, first),
+    }
+}
+
 // The place behind a statement, whose first step stands at a place.
 #[cycle(ends)]
 fn stmt_end(s: &Stmt, first: usize) -> Option<usize>
@@ -65,61 +76,21 @@ fn stmt_end(s: &Stmt, first: usize) -> Option<usize>
         Stmt::Follow { .. } => first.checked_add(3),
         Stmt::Link { .. } => first.checked_add(3),
         Stmt::Cut { .. } => first.checked_add(3),
-        Stmt::If { c, yes, no } => if_end(c, yes, no, first),
-        Stmt::While { c, body } => while_end(c, body, first),
-    }
-}
-
-#[cycle(ends)]
-fn if_end(c: &Cond, yes: &Block, no: &Block, first: usize) -> Option<usize>
-    ensures { MatchOption result (2 ^ 64 ≤ first + length (stmt_code (If c.now yes.now no.now) first)) (λ end. end ≡ first + length (stmt_code (If c.now yes.now no.now) first)) }
-{
-    if no.is_empty() {
-        if_alone_end(c, yes, first)
-    } else {
-        if_else_end(c, yes, no, first)
-    }
-}
-
-#[cycle(ends)]
-fn if_alone_end(c: &Cond, yes: &Block, first: usize) -> Option<usize>
-    ensures { MatchOption result (2 ^ 64 ≤ first + length (if_code c.now (block_code yes.now) first)) (λ end. end ≡ first + length (if_code c.now (block_code yes.now) first)) }
-{
-    match first.checked_add(1) {
-        None => None,
-        Some(inner) => block_end(yes, inner),
-    }
-}
-
-#[cycle(ends)]
-fn if_else_end(c: &Cond, yes: &Block, no: &Block, first: usize) -> Option<usize>
-    ensures { MatchOption result (2 ^ 64 ≤ first + length (if_else_code c.now (block_code yes.now) (block_code no.now) first)) (λ end. end ≡ first + length (if_else_code c.now (block_code yes.now) (block_code no.now) first)) }
-{
-    match second_start(yes, first) {
-        None => None,
-        Some(second) => block_end(no, second),
-    }
-}
-
-// Where the second block of an `if` begins, or a loop ends.
-#[cycle(ends)]
-fn second_start(yes: &Block, first: usize) -> Option<usize>
-    ensures { MatchOption result (2 ^ 64 ≤ first + 1 + length (block_code yes.now (first + 1)) + 1) (λ end. end ≡ first + 1 + length (block_code yes.now (first + 1)) + 1) }
-{
-    match first.checked_add(1) {
-        None => None,
-        Some(inner) => match block_end(yes, inner) {
+        Stmt::If { yes, no, .. } => match inner_end(yes, first) {
+            None => None,
+            Some(end) => {
+                if no.is_empty() {
+                    Some(end)
+                } else {
+                    inner_end(no, end)
+                }
+            }
+        },
+        Stmt::While { body, .. } => match inner_end(body, first) {
             None => None,
             Some(end) => end.checked_add(1),
         },
     }
-}
-
-#[cycle(ends)]
-fn while_end(c: &Cond, body: &Block, first: usize) -> Option<usize>
-    ensures { MatchOption result (2 ^ 64 ≤ first + length (while_code c.now (block_code body.now) first)) (λ end. end ≡ first + length (while_code c.now (block_code body.now) first)) }
-{
-    second_start(body, first)
 }
 
 // The place behind a block.
@@ -149,7 +120,7 @@ pub(crate) fn plain_len(op: &OpDecl) -> Option<usize>
 
 // One of two steps.
 fn of_two<'a>(at: usize, a: PlainStep<'a>, b: PlainStep<'a>) -> Option<PlainStep<'a>>
-    ensures { option_map shown result ≡ slice_get (shown a ∷ shown b ∷ []) at }
+    ensures { option_map shown result ≡ slice_get (shown a.entry ∷ shown b.entry ∷ []) at }
 {
     match at {
         0 => Some(a),
@@ -159,7 +130,7 @@ fn of_two<'a>(at: usize, a: PlainStep<'a>, b: PlainStep<'a>) -> Option<PlainStep
 }
 
 fn of_one(at: usize, a: PlainStep<'_>) -> Option<PlainStep<'_>>
-    ensures { option_map shown result ≡ slice_get (shown a ∷ []) at }
+    ensures { option_map shown result ≡ slice_get (shown a.entry ∷ []) at }
 {
     match at {
         0 => Some(a),
@@ -169,13 +140,59 @@ fn of_one(at: usize, a: PlainStep<'_>) -> Option<PlainStep<'_>>
 
 // The step at a place of a `read` and its `want`, and a step that uses the reference.
 fn of_read<'a>(at: usize, local: u32, field: u32, last: PlainStep<'a>) -> Option<PlainStep<'a>>
-    ensures { option_map shown result ≡ slice_get (Read local field ∷ Want ∷ shown last ∷ []) at }
+    ensures { option_map shown result ≡ slice_get (Read local field ∷ Want ∷ shown last.entry ∷ []) at }
 {
     match at {
         0 => Some(PlainStep::Read { local, field }),
         1 => Some(PlainStep::Want),
         2 => Some(last),
         _ => None,
+    }
+}
+
+// A `set` of what the hand holds.
+fn set_hand<'a>(local: u32) -> PlainStep<'a>
+    ensures { shown result ≡ Set local Hand }
+{
+    PlainStep::Set {
+        local,
+        from: Origin::Hand,
+    }
+}
+
+fn read<'a>(local: u32, field: u32) -> PlainStep<'a>
+    ensures { shown result ≡ Read local field }
+{
+    PlainStep::Read { local, field }
+}
+
+fn copy<'a>(local: u32, other: u32) -> PlainStep<'a>
+    ensures { shown result ≡ Set local (Local other) }
+{
+    PlainStep::Set {
+        local,
+        from: Origin::Local(other),
+    }
+}
+
+fn test(cond: &Cond, is_turn: bool, place: usize) -> PlainStep<'_>
+    ensures { shown result ≡ Test cond.now is_turn place }
+{
+    PlainStep::Test {
+        cond,
+        is_turn,
+        place,
+    }
+}
+
+// A `write` into a field.
+fn write<'a>(local: u32, field: u32, content: Content) -> PlainStep<'a>
+    ensures { shown result ≡ Write local field content }
+{
+    PlainStep::Write {
+        local,
+        field,
+        content,
     }
 }
 
@@ -186,174 +203,49 @@ fn stmt_step<'a>(s: &'a Stmt, first: usize, at: usize) -> Option<PlainStep<'a>>
     ensures { option_map shown result ≡ slice_get (stmt_code s.now first) at }
 {
     match s {
-        Stmt::SetInt { x, e } => {
-            let from = Origin::Hand;
-            of_two(
-                at,
-                PlainStep::Eval { value: e },
-                PlainStep::Set { local: *x, from },
-            )
-        }
-        Stmt::Load { x, p, f } => {
-            let from = Origin::Hand;
-            of_two(
-                at,
-                PlainStep::Read {
-                    local: *p,
-                    field: *f,
-                },
-                PlainStep::Set { local: *x, from },
-            )
-        }
+        Stmt::SetInt { x, e } => of_two(at, PlainStep::Eval { value: e }, set_hand(*x)),
+        Stmt::Load { x, p, f } => of_two(at, read(*p, *f), set_hand(*x)),
         Stmt::Store { p, f, e } => {
-            let content = Content::Number;
-            of_two(
-                at,
-                PlainStep::Eval { value: e },
-                PlainStep::Write {
-                    local: *p,
-                    field: *f,
-                    content,
-                },
-            )
+            let last = write(*p, *f, Content::Number);
+            of_two(at, PlainStep::Eval { value: e }, last)
         }
-        Stmt::Copy { p, q } => {
-            let from = Origin::Local(*q);
-            of_one(at, PlainStep::Set { local: *p, from })
-        }
+        Stmt::Copy { p, q } => of_one(at, copy(*p, *q)),
         Stmt::Null { p } => of_one(at, PlainStep::Drop { local: *p }),
-        Stmt::Follow { p, q, f } => {
-            let from = Origin::Hand;
-            of_read(at, *q, *f, PlainStep::Set { local: *p, from })
-        }
-        Stmt::New { p, kind } => {
-            let from = Origin::Hand;
-            of_two(
-                at,
-                PlainStep::Make { kind: *kind },
-                PlainStep::Set { local: *p, from },
-            )
-        }
-        Stmt::Link { q, f, p } => {
-            let content = Content::Local(*p);
-            of_read(
-                at,
-                *q,
-                *f,
-                PlainStep::Write {
-                    local: *q,
-                    field: *f,
-                    content,
-                },
-            )
-        }
-        Stmt::Cut { q, f } => {
-            let content = Content::Null;
-            of_read(
-                at,
-                *q,
-                *f,
-                PlainStep::Write {
-                    local: *q,
-                    field: *f,
-                    content,
-                },
-            )
-        }
-        Stmt::If { c, yes, no } => if_step(c, yes, no, first, at),
-        Stmt::While { c, body } => while_step(c, body, first, at),
+        Stmt::Follow { p, q, f } => of_read(at, *q, *f, set_hand(*p)),
+        Stmt::New { p, kind } => of_two(at, PlainStep::Make { kind: *kind }, set_hand(*p)),
+        Stmt::Link { q, f, p } => of_read(at, *q, *f, write(*q, *f, Content::Local(*p))),
+        Stmt::Cut { q, f } => of_read(at, *q, *f, write(*q, *f, Content::Null)),
         Stmt::Return { e } => of_one(at, PlainStep::Give { value: e }),
-    }
-}
-
-#[cycle(finds)]
-fn if_step<'a>(
-    c: &'a Cond,
-    yes: &'a Block,
-    no: &'a Block,
-    first: usize,
-    at: usize,
-) -> Option<PlainStep<'a>>
-    requires { first + length (stmt_code (If c.now yes.now no.now) first) < 2 ^ 64 }
-    ensures { option_map shown result ≡ slice_get (stmt_code (If c.now yes.now no.now) first) at }
-{
-    if no.is_empty() {
-        if_alone_step(c, yes, first, at)
-    } else {
-        if_else_step(c, yes, no, first, at)
-    }
-}
-
-#[cycle(finds)]
-fn if_alone_step<'a>(c: &'a Cond, yes: &'a Block, first: usize, at: usize) -> Option<PlainStep<'a>>
-    requires { first + length (if_code c.now (block_code yes.now) first) < 2 ^ 64 }
-    ensures { option_map shown result ≡ slice_get (if_code c.now (block_code yes.now) first) at }
-{
-    if at == 0 {
-        let is_turn = false;
-        let place = block_end(yes, first + 1)?;
-        Some(PlainStep::Test {
-            cond: c,
-            is_turn,
-            place,
-        })
-    } else {
-        block_step(yes, first + 1, at - 1)
-    }
-}
-
-#[cycle(finds)]
-fn if_else_step<'a>(
-    c: &'a Cond,
-    yes: &'a Block,
-    no: &'a Block,
-    first: usize,
-    at: usize,
-) -> Option<PlainStep<'a>>
-    requires { first + length (if_else_code c.now (block_code yes.now) (block_code no.now) first) < 2 ^ 64 }
-    ensures { option_map shown result ≡ slice_get (if_else_code c.now (block_code yes.now) (block_code no.now) first) at }
-{
-    let second = second_start(yes, first)?;
-    if at == 0 {
-        let is_turn = false;
-        return Some(PlainStep::Test {
-            cond: c,
-            is_turn,
-            place: second,
-        });
-    }
-    let jump = second - 1 - first;
-    if at < jump {
-        block_step(yes, first + 1, at - 1)
-    } else if at == jump {
-        let place = block_end(no, second)?;
-        Some(PlainStep::Jump { place })
-    } else {
-        block_step(no, second, at - jump - 1)
-    }
-}
-
-#[cycle(finds)]
-fn while_step<'a>(c: &'a Cond, body: &'a Block, first: usize, at: usize) -> Option<PlainStep<'a>>
-    requires { first + length (while_code c.now (block_code body.now) first) < 2 ^ 64 }
-    ensures { option_map shown result ≡ slice_get (while_code c.now (block_code body.now) first) at }
-{
-    let end = second_start(body, first)?;
-    if at == 0 {
-        let is_turn = true;
-        return Some(PlainStep::Test {
-            cond: c,
-            is_turn,
-            place: end,
-        });
-    }
-    let jump = end - 1 - first;
-    if at < jump {
-        block_step(body, first + 1, at - 1)
-    } else if at == jump {
-        Some(PlainStep::Jump { place: first })
-    } else {
-        None
+        Stmt::If { c, yes, no } => {
+            let end = inner_end(yes, first)?;
+            if at == 0 {
+                let place = if no.is_empty() { end } else { end + 1 };
+                Some(test(c, false, place))
+            } else if at < end - first {
+                block_step(yes, first + 1, at - 1)
+            } else if no.is_empty() {
+                None
+            } else {
+                let last = inner_end(no, end)?;
+                if at == end - first {
+                    Some(PlainStep::Jump { place: last })
+                } else {
+                    block_step(no, end + 1, at - (end - first) - 1)
+                }
+            }
+        }
+        Stmt::While { c, body } => {
+            let end = inner_end(body, first)?;
+            if at == 0 {
+                Some(test(c, true, end + 1))
+            } else if at < end - first {
+                block_step(body, first + 1, at - 1)
+            } else if at == end - first {
+                Some(PlainStep::Jump { place: first })
+            } else {
+                None
+            }
+        }
     }
 }
 

@@ -4,7 +4,7 @@ use Rattle.dl_instr.specs.Code.{op_code}
 use Rattle.dl_instr.proofs.CodesOf.{plain_is_code, codes_land}
 use Rattle.dl_instr.proofs.PlainJumps.{plain_lands}
 use Rattle.dl_instr.proofs.Rising.{some_at}
-use Rattle.dl_instr.proofs.laws.codes_of_modules.Goals as goal
+use Rattle.dl_instr.proofs.drops.codes_of_modules.Goals as goal
 
 pub returns-clause-plain : goal.returns-clause-plain
 returns-clause-plain c = plain_is_code

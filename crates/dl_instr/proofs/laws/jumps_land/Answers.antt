@@ -1,0 +1,5 @@
+use Rattle.dl_instr.proofs.Jumps.{jumps_of_code_land}
+use Rattle.dl_instr.proofs.laws.jumps_land.Goals as goal
+
+pub returns : goal.returns
+returns c = jumps_of_code_land
