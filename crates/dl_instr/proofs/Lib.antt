@@ -7,6 +7,7 @@ mod Moved
 mod Paths
 mod PlainJumps
 mod PlainSteps
+mod Refuted
 mod Rising
 mod SameLists
 pub mod Jumps

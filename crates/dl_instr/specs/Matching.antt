@@ -1,8 +1,13 @@
 -- How the places of the plain steps are found: from the last to the first, each as late as it can stand.
-use Rattle.std.specs.Prelude.{◌≡◌, ◌<◌, ◌≤◌, ◌+◌, ◌-◌, ◌↔◌, ◌⊎◌, ℕ, zero, suc, Some, List, length, slice_get}
+use Rattle.std.specs.Prelude.{◌≡◌, ◌<◌, ◌≤◌, ◌+◌, ◌-◌, ◌↔◌, ◌⊎◌, ℕ, zero, suc, Option, Some, None, List, length, slice_get}
 use Rattle.dl_ir.specs.declared.modules.OpDecl.{OpDecl}
 use Rattle.dl_instr.specs.declared.steps.Step.{Step}
 use Rattle.dl_instr.specs.Drops.{IsAddedDrop, moved, jump_of}
+
+-- where the step jumps to, if it is there and jumps
+abbrev pub jump_in : Option Step → Option ℕ
+jump_in None = None
+jump_in (Some step) = jump_of step
 
 -- some step jumps to the place
 pub record IsTarget (steps : List Step) (place : ℕ) : Type 0 where

@@ -11,6 +11,7 @@ mod generator;
 mod laws;
 mod listing;
 mod liveness;
+mod matching;
 mod names;
 mod plain;
 mod same;

@@ -17,9 +17,10 @@ block_step-loop-s-preserved t c =
     let items = c.as_slice-s-items.result.now in
     let end = c.in_ok-end.end in
     let at : end ≡ c.loop-s.place + length (stmt_code c.s-item.result c.loop-s.place) = c.in_ok-end.ensures in
-    let more : length (stmt_code c.s-item.result c.loop-s.place) ≤ c.loop-s.left = omega (arith, at) in
-    (row_length items c.loop-s.s-index c.s-item.result c.loop-s.place end (omega arith) c.s-item.is at ∙ c.loop-s.invariant.0,
-     row_next items c.loop-s.s-index c.s-item.result c.loop-s.place c.loop-s.left end (omega arith) c.s-item.is at more ∙ c.loop-s.invariant.1)
+    let more : length (stmt_code c.s-item.result c.loop-s.place) ≤ c.loop-s.left = omega (arith, at) in (
+      row_length items c.loop-s.s-index c.s-item.result c.loop-s.place end (omega arith) c.s-item.is at ∙ c.loop-s.invariant.0,
+      row_next items c.loop-s.s-index c.s-item.result c.loop-s.place c.loop-s.left end (omega arith) c.s-item.is at more ∙ c.loop-s.invariant.1,
+    )
 
 pub stmt_step-overflow_add-place : goal.stmt_step-overflow_add-place
 stmt_step-overflow_add-place t c =
@@ -29,7 +30,7 @@ stmt_step-overflow_add-place t c =
 pub stmt_step-returns-in_err-last-in-If : goal.stmt_step-returns-in_err-last-in-If
 stmt_step-returns-in_err-last-in-If t c =
     let whole = if_else_ends c.args.s.now c.in-If.c c.in-If.yes c.in-If.no c.args.first c.in_ok-end-in-If.end c.in-If.is
-      (not_so c.is_empty-else-at-end.result c.is_empty-else-at-end.ensures c.if-is_empty-2.false) c.in_ok-end-in-If.ensures in
+    (not_so c.is_empty-else-at-end.result c.is_empty-else-at-end.ensures c.if-is_empty-2.false) c.in_ok-end-in-If.ensures in
     absurd (omega (arith, whole, c.in_err-last-in-If.ensures))
 
 pub stmt_step-returns-in_err-end-in-While : goal.stmt_step-returns-in_err-end-in-While
@@ -45,13 +46,13 @@ stmt_step-overflow_add-end-then-at-eq0-2 t c =
 
 pub stmt_step-returns-after-is_empty : goal.stmt_step-returns-after-is_empty
 stmt_step-returns-after-is_empty t c = elim c.if-is_empty.branch [
-    | stmt_step-then-is_empty w ↦
+  | stmt_step-then-is_empty w ↦
       ap Some (c.test.ensures ∙ ap (Test c.in-If.c false) w.place-is)
       ∙ if_test_alone c.args.s.now c.in-If.c c.in-If.yes c.args.first c.args.at c.in_ok-end-in-If.end c.in_ok-end-in-If.ensures c.in-If.no c.in-If.is (c.is_empty.ensures.0 w.if-is_empty.true) (omega arith)
-    | stmt_step-else-is_empty w ↦
+  | stmt_step-else-is_empty w ↦
       ap Some (c.test.ensures ∙ ap (Test c.in-If.c false) w.place-is)
       ∙ if_test_else c.args.s.now c.in-If.c c.in-If.yes c.args.first c.args.at c.in_ok-end-in-If.end c.in_ok-end-in-If.ensures c.in-If.no c.in-If.is (not_so c.is_empty.result c.is_empty.ensures w.if-is_empty.false) (omega arith)
-  ]
+]
 
 pub stmt_step-returns-then-at-end : goal.stmt_step-returns-then-at-end
 stmt_step-returns-then-at-end t c =
@@ -65,13 +66,13 @@ stmt_step-returns-then-is_empty-2 t c =
 pub stmt_step-returns-then-at-end-2 : goal.stmt_step-returns-then-at-end-2
 stmt_step-returns-then-at-end-2 t c =
     if_jump c.args.s.now c.in-If.c c.in-If.yes c.args.first c.args.at c.in_ok-end-in-If.end c.in_ok-end-in-If.ensures c.in-If.no c.in_ok-last-in-If.last c.in-If.is
-      (not_so c.is_empty-else-at-end.result c.is_empty-else-at-end.ensures c.if-is_empty-2.false) (omega arith) c.in_ok-last-in-If.ensures
+    (not_so c.is_empty-else-at-end.result c.is_empty-else-at-end.ensures c.if-is_empty-2.false) (omega arith) c.in_ok-last-in-If.ensures
 
 pub stmt_step-returns-else-at-end-2 : goal.stmt_step-returns-else-at-end-2
 stmt_step-returns-else-at-end-2 t c =
     c.block_step-else-at-end-2.ensures
     ∙ if_second c.args.s.now c.in-If.c c.in-If.yes c.args.first c.args.at c.in_ok-end-in-If.end c.in_ok-end-in-If.ensures c.in-If.no (c.args.at - (c.in_ok-end-in-If.end - c.args.first) - 1) c.in-If.is
-      (not_so c.is_empty-else-at-end.result c.is_empty-else-at-end.ensures c.if-is_empty-2.false) (omega arith)
+    (not_so c.is_empty-else-at-end.result c.is_empty-else-at-end.ensures c.if-is_empty-2.false) (omega arith)
 
 pub stmt_step-returns-then-at-end-3 : goal.stmt_step-returns-then-at-end-3
 stmt_step-returns-then-at-end-3 t c =
