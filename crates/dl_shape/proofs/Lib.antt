@@ -1,6 +1,6 @@
-mod Forest
+pub mod Forest
 mod Looks
 mod Marking
-mod Members
+pub mod Members
 mod Order
 mod Totals
