@@ -1,4 +1,5 @@
 pub mod CallForms
+pub mod Checked
 pub mod Codes
 pub mod Cover
 pub mod Evaluation
@@ -7,4 +8,5 @@ pub mod Marks
 pub mod Meaning
 pub mod Places
 pub mod Relation
+pub mod Typed
 pub mod Values

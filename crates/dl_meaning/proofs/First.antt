@@ -54,6 +54,7 @@ first_states_fit cx op given h turns heap ticket after all = record {
   typed = λ x t value t_is value_is. all_hold h op.params op.vars given x t value all t_is value_is;
   heap = heap;
   ticket = ticket;
+  not_later = λ name object there. let before = after name object there in omega (arith, before);
   fresh = λ name object there own. let before = after name object there in absurd (omega (arith, before, own));
 }
 

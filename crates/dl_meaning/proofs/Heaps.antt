@@ -61,7 +61,7 @@ local_stays stays (types.Of kind) (values.Int n) has = absurd has
 local_stays stays (types.Of kind) (values.Ref None) has = tt
 local_stays stays (types.Of kind) (values.Ref (Some name)) has = stays.object name kind has
 
-fields_stay : {h g : Objects} → Stays h g → (fields : List FieldDecl) (held : List Value) → HasFields h fields held → HasFields g fields held
+pub fields_stay : {h g : Objects} → Stays h g → (fields : List FieldDecl) (held : List Value) → HasFields h fields held → HasFields g fields held
 fields_stay stays fields held has = record {
   one_each = has.one_each;
   typed = λ at field value field_is value_is. type_stays stays field.ty value (has.typed at field value field_is value_is);

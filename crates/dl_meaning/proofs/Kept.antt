@@ -15,7 +15,7 @@ use Rattle.dl_ir.specs.Meaning.{Context, State, set_local, set_field, take_turn,
 use Rattle.dl_ir.specs.Relation as relation
 use Rattle.dl_ir.specs.Relation.{RefersTo, HasField, IsOpen, IsMarked}
 use Rattle.dl_meaning.specs.Fitting.{Fits, HoldsType}
-use Rattle.dl_meaning.specs.Typed.{HasFieldOf, IsLocalOf}
+use Rattle.dl_ir.specs.Typed.{HasFieldOf, IsLocalOf}
 use Rattle.dl_meaning.proofs.Heaps.{local_stays, changed, stays_written, written, stays_made, made, looked, inserted}
 use Rattle.dl_meaning.proofs.Places.{same_place, set_place}
 
@@ -144,12 +144,13 @@ fits_local {locals = locals} {s = s} x t value fits is has = record {
   ];
   heap = fits.heap;
   ticket = fits.ticket;
+  not_later = fits.not_later;
   fresh = fits.fresh;
 }
 
 -- a turn is taken
 pub fits_turn : {cx : Context} {locals : List Ty} {s : State} → Fits cx locals s → Fits cx locals (take_turn s)
-fits_turn fits = record { one_each = fits.one_each; typed = fits.typed; heap = fits.heap; ticket = fits.ticket; fresh = fits.fresh }
+fits_turn fits = record { one_each = fits.one_each; typed = fits.typed; heap = fits.heap; ticket = fits.ticket; not_later = fits.not_later; fresh = fits.fresh }
 
 -- a field gets a value of its type
 pub fits_field : {cx : Context} {locals : List Ty} {s : State} {name : Name} {kind f : ℕ} {t : Ty} (value : Value) → Fits cx locals s → HasObject s.objects name kind
@@ -168,6 +169,10 @@ fits_field {cx = cx} {locals = locals} {s = s} {name = name} {kind = kind} {f = 
           let one_field : has.field ≡ field = cc in
           subst (λ k. HasType s.objects k value) (sym has.of_type ∙ ap (λ d. d.ty) one_field) of_type);
       ticket = fits.ticket;
+      not_later = λ q p is. elim (looked s.objects name new q p is) [
+        | inl same ↦ fits.not_later q there.object (ap (finite.get s.objects) same.0 ∙ there.is_there)
+        | inr other ↦ fits.not_later q p other
+      ];
       fresh = λ q p is own. elim (looked s.objects name new q p is) [
         | inl same ↦ fits.fresh q there.object (ap (finite.get s.objects) same.0 ∙ there.is_there) own
         | inr other ↦ fits.fresh q p other own
@@ -193,6 +198,10 @@ fits_new {cx = cx} {locals = locals} {s = s} {kind = kind} p fits is node =
       typed = λ x u v u_is v_is. local_stays stays u v (fits.typed x u v u_is v_is);
       heap = made cx.source s.objects name kind node fits.heap none fits.ticket;
       ticket = fits.ticket;
+      not_later = λ q o there. elim (looked s.objects name new q o there) [
+        | inl same ↦ let own = ap (λ (n : Name). n.ticket) same.0 in omega (arith, own)
+        | inr other ↦ fits.not_later q o other
+      ];
       fresh = λ q o there own. elim (looked s.objects name new q o there) [
         | inl same ↦ omega (arith, ap (λ (n : Name). n.index) same.0)
         | inr other ↦ omega (arith, fits.fresh q o other own)

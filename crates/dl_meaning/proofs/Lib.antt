@@ -1,7 +1,10 @@
 mod First
 mod Heaps
 mod Kept
+mod Left
+mod One
 mod Places
+mod Settled
 mod Sound
 mod Total
 mod Turns

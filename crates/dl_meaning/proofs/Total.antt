@@ -15,8 +15,8 @@ use Rattle.dl_ir.specs.Meaning.{Context, State, fault_end, take_turn}
 use Rattle.dl_ir.specs.Relation as relation
 use Rattle.dl_ir.specs.Relation.{Runs, RunsBlock, Loops, HasField}
 use Rattle.dl_meaning.specs.Fitting.{Fits}
-use Rattle.dl_meaning.specs.Typed as typed
-use Rattle.dl_meaning.specs.Typed.{IsTyped, IsTypedBlock, FieldsReferToNodes}
+use Rattle.dl_ir.specs.Typed as typed
+use Rattle.dl_ir.specs.Typed.{IsTyped, IsTypedBlock, FieldsReferToNodes}
 use Rattle.dl_meaning.proofs.Kept.{reference_at, at_reference, number_at, target_at, to_local, to_field, by_open, fits_local, fits_turn, fits_field, fits_new}
 use Rattle.dl_meaning.proofs.Turns.{block_turns}
 

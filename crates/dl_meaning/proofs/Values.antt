@@ -17,8 +17,8 @@ use Rattle.dl_ir.specs.declared.names.Value.TheVariants as values
 use Rattle.dl_ir.specs.Evaluation.{Number, Truth, value_step, value_of, holds_of, side_of, in_range, applied, relates, is_same}
 use Rattle.dl_ir.specs.Meaning.{Context, State}
 use Rattle.dl_meaning.specs.Fitting.{Fits, HoldsType}
-use Rattle.dl_meaning.specs.Typed as typed
-use Rattle.dl_meaning.specs.Typed.{IsTypedExpr, IsTypedCond, IsLocalOf}
+use Rattle.dl_ir.specs.Typed as typed
+use Rattle.dl_ir.specs.Typed.{IsTypedExpr, IsTypedCond, IsLocalOf}
 use Rattle.dl_meaning.specs.Values as by_cases
 use Rattle.dl_meaning.specs.Values.{HasValue, SideRefersTo, HasTruth, TypedHasOneValue, TypedHasOneTruth}
 use Rattle.dl_meaning.proofs.Kept.{Refers, reference_at}

@@ -13,7 +13,7 @@ use Rattle.dl_ir.specs.CallForms.{IsRootNumber}
 use Rattle.dl_ir.specs.Heap.{Objects, IsHeapOf, blank, root}
 use Rattle.dl_ir.specs.Meaning.{Context, State}
 use Rattle.dl_meaning.specs.Fitting.{Fits, HoldsType}
-use Rattle.dl_meaning.specs.Typed.{types_of}
+use Rattle.dl_ir.specs.Typed.{types_of}
 
 -- there is one value for each parameter, in order, and each is of the parameter's type
 abbrev pub AllHold : Objects → List LocalDecl → List Value → Type 0
@@ -27,12 +27,12 @@ abbrev pub first_state : OpDecl → List Value → Objects → ℕ → State
 first_state op given h turns = record { locals = given ++ map (λ (var : LocalDecl). blank var.ty) op.vars; objects = h; turns = turns; made = 0 }
 
 -- every object has a name of a lesser ticket
-abbrev pub IsAfter : ℕ → Objects → Type 0
-IsAfter ticket h = (name : Name) (object : Obj) → finite.get h name ≡ Some object → name.ticket < ticket
+abbrev pub HasTicketsBelow : ℕ → Objects → Type 0
+HasTicketsBelow ticket h = (name : Name) (object : Obj) → finite.get h name ≡ Some object → name.ticket < ticket
 
 -- an operation begins in a state that fits, in each heap of the module whose tickets are all before its own, whatever its turns
 abbrev pub FirstStatesFit : Type 0
-FirstStatesFit = (cx : Context) (op : OpDecl) (given : List Value) (h : Objects) (turns : ℕ) → IsHeapOf cx.source h → 0 < cx.ticket → IsAfter cx.ticket h
+FirstStatesFit = (cx : Context) (op : OpDecl) (given : List Value) (h : Objects) (turns : ℕ) → IsHeapOf cx.source h → 0 < cx.ticket → HasTicketsBelow cx.ticket h
     → AllHold h op.params given → Fits cx (types_of op) (first_state op given h turns)
 
 -- the root that an argument names may be given for a parameter of its kind

@@ -29,5 +29,7 @@ pub record Fits (cx : Context) (types : List Ty) (s : State) : Type 0 where
   pub heap : IsHeapOf cx.source s.objects
   -- the operation has a ticket of its own, which no root's name has
   pub ticket : 0 < cx.ticket
+  -- no object has a later ticket
+  pub not_later : (name : Name) (object : Obj) → finite.get s.objects name ≡ Some object → name.ticket ≤ cx.ticket
   -- of the names that have this ticket, none above the number made is in the heap
   pub fresh : (name : Name) (object : Obj) → finite.get s.objects name ≡ Some object → name.ticket ≡ cx.ticket → name.index ≤ s.made

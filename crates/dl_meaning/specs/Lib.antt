@@ -1,6 +1,6 @@
 pub mod Fitting
 pub mod FirstStates
 pub mod OneOutcome
+pub mod Operations
 pub mod Single
-pub mod Typed
 pub mod Values

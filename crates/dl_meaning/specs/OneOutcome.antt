@@ -7,7 +7,8 @@ use Rattle.dl_ir.specs.Meaning.{Context, State, block_does}
 use Rattle.dl_ir.specs.Relation.{RunsBlock}
 use Rattle.dl_meaning.specs.Fitting.{Fits}
 use Rattle.dl_meaning.specs.Single.{outcome}
-use Rattle.dl_meaning.specs.Typed.{IsTypedBlock, IsTypedModule, FieldsReferToNodes, types_of}
+use Rattle.dl_ir.specs.Checked.{IsChecked}
+use Rattle.dl_ir.specs.Typed.{IsTypedBlock, FieldsReferToNodes, types_of}
 
 -- a block has an outcome from a state, that state fits again, and any other outcome is it
 pub record HasOneOutcome (cx : Context) (types : List Ty) (block : List Stmt) (s : State) : Type 0 where
@@ -22,9 +23,9 @@ abbrev pub TypedHasOneOutcome : Type 0
 TypedHasOneOutcome = (cx : Context) (types : List Ty) (block : List Stmt) (s : State) → FieldsReferToNodes cx.source → IsTypedBlock cx.source types block
     → Fits cx types s → HasOneOutcome cx types block s
 
--- the body of each operation of a typed module has one outcome from each state that fits
+-- the body of each operation of a checked module has one outcome from each state that fits
 abbrev pub BodiesHaveOneOutcome : Type 0
-BodiesHaveOneOutcome = (cx : Context) (number : ℕ) (op : OpDecl) (s : State) → IsTypedModule cx.source → slice_get cx.source.ops number ≡ Some op
+BodiesHaveOneOutcome = (cx : Context) (number : ℕ) (op : OpDecl) (s : State) → IsChecked cx.source → slice_get cx.source.ops number ≡ Some op
     → Fits cx (types_of op) s → HasOneOutcome cx (types_of op) op.body s
 
 -- at a typed block and a state that fits, the relation holds exactly of what the function gives

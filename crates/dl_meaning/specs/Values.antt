@@ -16,7 +16,7 @@ use Rattle.dl_ir.specs.declared.names.Value.TheVariants.{Int, Ref}
 use Rattle.dl_ir.specs.Evaluation.{Number, Truth, value_of, holds_of, in_range, applied, relates, is_same}
 use Rattle.dl_ir.specs.Meaning.{Context, State}
 use Rattle.dl_meaning.specs.Fitting.{Fits}
-use Rattle.dl_meaning.specs.Typed.{IsTypedExpr, IsTypedCond}
+use Rattle.dl_ir.specs.Typed.{IsTypedExpr, IsTypedCond}
 
 -- an expression has this value at these locals, or this first fault
 pub data HasValue (locals : List Value) : Expr → Number → Type 0 where

@@ -1,9 +1,11 @@
 //! Laws of the meaning of statements: that a statement has at most one outcome, that it has one where it is typed, and
-//! that the relation by cases and the function that `dl_ir` defines say the same.
+//! that the relation by cases and the function that `dl_ir` defines say the same; and of calls of a checked module: that
+//! each has exactly one outcome, and leaves a heap of the module.
 #![tactic(auto)]
 
 ghost use Rattle.dl_meaning.specs.FirstStates.{FirstStatesFit, RootsAreHeld};
 ghost use Rattle.dl_meaning.specs.OneOutcome.{TypedHasOneOutcome, BodiesHaveOneOutcome, FunctionIsRelation};
+ghost use Rattle.dl_meaning.specs.Operations.{OperationsHaveOneOutcome, CallsGiveTheOutcome, CallsLeaveHeaps, ReplaysLeaveHeaps, LegalReplaysLeaveHeaps};
 ghost use Rattle.dl_meaning.specs.Single.{StatementsHaveAtMostOne, BlocksHaveAtMostOne, DoesIsTheOutcome, BlockDoesIsTheOutcome, LoopsIsTheOutcome};
 ghost use Rattle.dl_meaning.specs.Values.{TypedHasOneValue, TypedHasOneTruth};
 
@@ -16,7 +18,7 @@ pub fn at_most_one()
     ensures loops { LoopsIsTheOutcome }
 {}
 
-/// That a typed block has exactly one outcome from each state that fits, and so the body of each operation of a typed module.
+/// That a typed block has exactly one outcome from each state that fits, and so the body of each operation of a checked module.
 pub fn one_outcome()
     ensures blocks { TypedHasOneOutcome }
     ensures bodies { BodiesHaveOneOutcome }
@@ -39,4 +41,18 @@ pub fn first_states_fit()
 pub fn one_value()
     ensures expressions { TypedHasOneValue }
     ensures conditions { TypedHasOneTruth }
+{}
+
+/// That an operation of a checked module has exactly one outcome on each heap of the module, whatever its turns, and that a call gives
+/// the answer and the heap of that outcome.
+pub fn operations_have_one_outcome()
+    ensures operations { OperationsHaveOneOutcome }
+    ensures calls { CallsGiveTheOutcome }
+{}
+
+/// That a call of a checked module leaves a heap of the module, and so does a replay of calls.
+pub fn heaps_are_left()
+    ensures calls { CallsLeaveHeaps }
+    ensures replays { ReplaysLeaveHeaps }
+    ensures legal { LegalReplaysLeaveHeaps }
 {}

@@ -2,5 +2,5 @@ pub mod Forest
 mod Looks
 mod Marking
 pub mod Members
-mod Order
-mod Totals
+pub mod Order
+pub mod Totals

@@ -1,4 +1,9 @@
 pub mod Answered
 pub mod Bodies
+pub mod Checking
+pub mod Found
+pub mod Givens
+pub mod ModulesFit
+pub mod OperationsFit
 pub mod Rows
-pub mod Sorts
+pub mod StatementsFit

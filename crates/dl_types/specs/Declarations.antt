@@ -1,5 +1,5 @@
 -- What the declarations of a tree declare, or the first fault in them.
-use Rattle.std.specs.Prelude.{ℕ, Bool, true, false, not, if◌then◌else◌, List, [], sum_by, codes, Option, Some, None, Result, Ok, Err, is_some}
+use Rattle.std.specs.Prelude.{ℕ, Bool, not, if◌then◌else◌, List, [], sum_by, codes, Option, Some, None, Result, Ok, Err, is_some}
 use Rattle.std.specs.Str.{bytes_eq}
 use Rattle.dl_ir.specs.declared.modules.Ty.{Ty}
 use Rattle.dl_ir.specs.declared.modules.Ty.TheVariants.{Int, Of}
@@ -67,12 +67,3 @@ abbrev pub var_typed : List KindDecl → List LocalDecl → List LocalDecl → T
 var_typed kinds params before var =
     if is_some (local_of params before var.name.text) then Err (Twice var.name.line)
     else type_of (kind_named 0 kinds) InVar var.ty >>= λ ty. Ok (record { name = var.name.text; ty = ty })
-
--- a type is that of references
-abbrev pub is_reference : Ty → Bool
-is_reference Int = false
-is_reference (Of kind) = true
-
--- a parameter refers to a root
-abbrev pub is_root_param : LocalDecl → Bool
-is_root_param param = is_reference param.ty

@@ -1,4 +1,3 @@
-pub mod Checked
 pub mod Checks
 pub mod Declarations
 pub mod Limits

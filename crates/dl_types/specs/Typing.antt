@@ -1,17 +1,18 @@
 -- Which module a tree is, or the first fault that it has in the order of the text.
-use Rattle.std.specs.Prelude.{◌≡◌, Bool, if◌then◌else◌, List, [], Result, Ok, Err}
+use Rattle.std.specs.Prelude.{◌≡◌, if◌then◌else◌, List, [], Result, Ok, Err}
 use Rattle.std.specs.List.{list_any}
 use Rattle.dl_ir.specs.declared.modules.KindDecl.{KindDecl}
 use Rattle.dl_ir.specs.declared.modules.LocalDecl.{LocalDecl}
 use Rattle.dl_ir.specs.declared.modules.OpDecl.{OpDecl}
 use Rattle.dl_ir.specs.declared.modules.Module.{Module}
+use Rattle.dl_ir.specs.Checked.{is_reference_local, is_root}
 use Rattle.dl_grammar.specs.declared.tree.TreeOp.{TreeOp}
 use Rattle.dl_grammar.specs.declared.tree.Tree.{Tree}
 use Rattle.dl_types.specs.declared.fault.TypeFault.{TypeFault}
 use Rattle.dl_types.specs.declared.fault.TypeFault.TheVariants.{Twice, KindClash, NoRoots}
 use Rattle.dl_types.specs.Checks.{◌>>=◌, each}
 use Rattle.dl_types.specs.Names.{has_op}
-use Rattle.dl_types.specs.Declarations.{kind_typed, param_typed, var_typed, is_root_param}
+use Rattle.dl_types.specs.Declarations.{kind_typed, param_typed, var_typed}
 use Rattle.dl_types.specs.Statements.{block_typed}
 
 -- an operation with these parameters: its vars, then its body
@@ -23,17 +24,13 @@ op_behind kinds op params =
 -- an operation whose parameters are typed: one of them has to refer to a root
 abbrev pub op_with : List KindDecl → TreeOp → List LocalDecl → Result OpDecl TypeFault
 op_with kinds op params =
-    if list_any is_root_param params then op_behind kinds op params else Err (KindClash op.name.line)
+    if list_any is_reference_local params then op_behind kinds op params else Err (KindClash op.name.line)
 
 -- an operation, behind those before it
 abbrev pub op_typed : List KindDecl → List OpDecl → TreeOp → Result OpDecl TypeFault
 op_typed kinds before op =
     if has_op before op.name.text then Err (Twice op.name.line)
     else each (param_typed kinds) [] op.params >>= λ params. op_with kinds op params
-
--- a kind is a root kind
-abbrev pub is_root : KindDecl → Bool
-is_root kind = kind.is_root
 
 -- the module that a tree is, or its first fault; where there is no other fault, a root kind has to be there
 abbrev pub typed : Tree → Result Module TypeFault

@@ -2,9 +2,8 @@ ghost use Rattle.std.specs.Prelude.{◌≡◌, ◌+◌, ◌<◌, ◌≤◌, ◌^
 ghost use Rattle.std.specs.List.{AllByRecursion, list_any};
 ghost use Rattle.std.specs.Str.{bytes_eq};
 ghost use Rattle.dl_ir.specs.declared.modules.KindDecl.{KindDecl as Kind};
-ghost use Rattle.dl_ir.specs.Heap.{HasRootsAt, StandInRow};
+ghost use Rattle.dl_ir.specs.Checked.{is_reference_local};
 ghost use Rattle.dl_grammar.specs.declared.tree.TreeKind.{TreeKind as TreeKindOf};
-ghost use Rattle.dl_types.specs.Checked.{RefersAt, IsParam, IsVar};
 ghost use Rattle.dl_types.specs.Checks.{Gives, each};
 ghost use Rattle.dl_types.specs.Names.{kind_named, tree_kind_named};
 ghost use Rattle.dl_types.specs.Declarations as spec;
@@ -88,12 +87,10 @@ fn field_type(kinds: &[TreeKind], word: &Word) -> Result<Ty, TypeFault>
     )
 }
 
-#[tactic(auto, using(crate::proofs::Sorts::kind_accepted))]
 /// The type that a word means as that of a parameter or a var.
 fn local_type(kinds: &[KindDecl], place: Place, word: &Word) -> Result<Ty, TypeFault>
     requires { length kinds.now < 2 ^ 32 }
-    ensures value { result ≡ spec.type_of (kind_named 0 kinds.now) place word.now }
-    ensures refers { IfOk result (RefersAt kinds.now place) }
+    ensures { result ≡ spec.type_of (kind_named 0 kinds.now) place word.now }
 {
     if is_int(word) {
         return Ok(Ty::Int);
@@ -153,7 +150,6 @@ fn kind_typed(
     requires next { next ≡ sum_by (λ (k : Kind). k.count) before.now }
     ensures gives { Gives (spec.kind_typed kinds.now before.now kind.now) result }
     ensures few_fields { IfOk result (λ declared. length declared.fields ≤ 16) }
-    ensures roots { IfOk result (HasRootsAt next) }
     ensures count { IfOk result (λ declared. declared.count ≤ kind.now.count) }
 {
     if kind_named(before, kind.name.text.as_slice()).is_some() {
@@ -185,7 +181,6 @@ pub fn kinds_typed(alloc: Global, kinds: &[TreeKind]) -> Result<Items<KindDecl>,
     ensures gives { Gives (each (spec.kind_typed kinds.now) [] kinds.now) result }
     ensures count { IfOk result (λ typed. length typed ≡ length kinds.now) }
     ensures few_fields { IfOk result (All (λ (k : Kind). length k.fields ≤ 16)) }
-    ensures row { IfOk result (StandInRow 0) }
 {
     let mut typed = Items::new(alloc);
     let mut next = 0;
@@ -205,8 +200,7 @@ fn param_typed(
 ) -> Result<LocalDecl, TypeFault>
     requires few_kinds { length kinds.now < 2 ^ 32 }
     requires few_before { length before.now < 2 ^ 32 }
-    ensures gives { Gives (spec.param_typed kinds.now before.now param.now) result }
-    ensures refers { IfOk result (IsParam kinds.now) }
+    ensures { Gives (spec.param_typed kinds.now before.now param.now) result }
 {
     if local_named(0, before, param.name.text.as_slice()).is_some() {
         return Err(TypeFault::Twice {
@@ -228,7 +222,6 @@ pub fn params_typed(
     requires few_params { length params.now ≤ 32 }
     ensures gives { Gives (each (spec.param_typed kinds.now) [] params.now) result }
     ensures count { IfOk result (λ typed. length typed ≡ length params.now) }
-    ensures refers { IfOk result (All (IsParam kinds.now)) }
 {
     let mut typed = Items::new(alloc);
     for param in params {
@@ -247,8 +240,7 @@ fn var_typed(
 ) -> Result<LocalDecl, TypeFault>
     requires few_kinds { length kinds.now < 2 ^ 32 }
     requires few_before { length params.now + length before.now < 2 ^ 32 }
-    ensures gives { Gives (spec.var_typed kinds.now params.now before.now var.now) result }
-    ensures refers { IfOk result (IsVar kinds.now) }
+    ensures { Gives (spec.var_typed kinds.now params.now before.now var.now) result }
 {
     if local_of(params, before, var.name.text.as_slice()).is_some() {
         return Err(TypeFault::Twice {
@@ -271,7 +263,6 @@ pub fn vars_typed(
     requires few_locals { length params.now + length vars.now ≤ 32 }
     ensures gives { Gives (each (spec.var_typed kinds.now params.now) [] vars.now) result }
     ensures count { IfOk result (λ typed. length typed ≡ length vars.now) }
-    ensures refers { IfOk result (All (IsVar kinds.now)) }
 {
     let mut typed = Items::new(alloc);
     for var in vars {
@@ -283,7 +274,7 @@ pub fn vars_typed(
 
 /// Whether a parameter refers to a root.
 pub fn has_root(params: &[LocalDecl]) -> bool
-    ensures { result ≡ list_any spec.is_root_param params.now }
+    ensures { result ≡ list_any is_reference_local params.now }
 {
     params.iter().any(|param| matches!(param.ty, Ty::Of(_)))
 }

@@ -9,7 +9,7 @@ mod operands;
 mod statements;
 
 pub use fault::TypeFault;
-pub use module::check;
+pub use module::{check, checked_modules};
 
 #[cfg(test)]
 mod tests;

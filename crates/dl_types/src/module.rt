@@ -2,11 +2,11 @@ ghost use Rattle.std.specs.Prelude.{◌≡◌, ◌≢◌, ◌+◌, ◌<◌, ◌�
 ghost use Rattle.std.specs.List.{AllByRecursion, list_any};
 ghost use Rattle.dl_ir.specs.declared.modules.KindDecl.{KindDecl as Kind};
 ghost use Rattle.dl_ir.specs.declared.modules.Module.{Module as ModuleOf};
+ghost use Rattle.dl_ir.specs.Checked.{IsChecked, is_root};
 ghost use Rattle.dl_types.specs.declared.fault.TypeFault.{TypeFault as FaultOf};
-ghost use Rattle.dl_types.specs.Checked.{IsParam, IsVar};
 ghost use Rattle.dl_types.specs.Checks.{Gives, each};
 ghost use Rattle.dl_grammar.specs.Limits.{IsInLimits, IsOpInLimits};
-ghost use Rattle.dl_types.specs.Limits.{IsBounded, IsOperation, IsModuleInLimits};
+ghost use Rattle.dl_types.specs.Limits.{IsBounded, TypedIsChecked};
 ghost use Rattle.dl_types.specs.Statements.{block_typed};
 ghost use Rattle.dl_types.specs.Typing as spec;
 ghost use Rattle.dl_types.specs.Typing.{Types, IsTypeFault};
@@ -51,8 +51,7 @@ fn op_behind(
     requires few_kinds { length kinds.now ≤ 16 }
     requires few_fields { All (λ (k : Kind). length k.fields ≤ 16) kinds.now }
     requires few_locals { length params + length op.now.vars ≤ 32 }
-    ensures gives { Gives (spec.op_behind kinds.now op.now params) result }
-    ensures in_limits { IfOk result (λ declared. (declared.params ≡ params) × (length declared.vars ≡ length op.now.vars) × (declared.allocs ≡ op.now.allocs) × (declared.fuel ≡ op.now.fuel) × All (IsVar kinds.now) declared.vars) }
+    ensures { Gives (spec.op_behind kinds.now op.now params) result }
 {
     let vars = vars_typed(alloc, kinds, params.as_slice(), op.vars.as_slice())?;
     let body = body_typed(alloc, kinds, params.as_slice(), vars.as_slice(), op)?;
@@ -77,10 +76,7 @@ fn op_with(
     requires few_kinds { length kinds.now ≤ 16 }
     requires few_fields { All (λ (k : Kind). length k.fields ≤ 16) kinds.now }
     requires few_locals { length params + length op.now.vars ≤ 32 }
-    requires in_limits { IsOpInLimits op.now }
-    requires params { All (IsParam kinds.now) params }
-    ensures gives { Gives (spec.op_with kinds.now op.now params) result }
-    ensures in_limits { IfOk result (IsOperation kinds.now) }
+    ensures { Gives (spec.op_with kinds.now op.now params) result }
 {
     if has_root(params.as_slice()) {
         op_behind(alloc, kinds, op, params)
@@ -99,8 +95,7 @@ fn op_typed(
     requires few_kinds { length kinds.now ≤ 16 }
     requires few_fields { All (λ (k : Kind). length k.fields ≤ 16) kinds.now }
     requires in_limits { IsOpInLimits op.now }
-    ensures gives { Gives (spec.op_typed kinds.now before.now op.now) result }
-    ensures in_limits { IfOk result (IsOperation kinds.now) }
+    ensures { Gives (spec.op_typed kinds.now before.now op.now) result }
 {
     if has_op(before, op.name.text.as_slice()) {
         return Err(TypeFault::Twice { line: op.name.line });
@@ -114,9 +109,7 @@ fn ops_typed(alloc: Global, kinds: &[KindDecl], ops: &[TreeOp]) -> Result<Items<
     requires few_kinds { length kinds.now ≤ 16 }
     requires few_fields { All (λ (k : Kind). length k.fields ≤ 16) kinds.now }
     requires in_limits { AllByRecursion IsOpInLimits ops.now }
-    ensures gives { Gives (each (spec.op_typed kinds.now) [] ops.now) result }
-    ensures count { IfOk result (λ typed. length typed ≡ length ops.now) }
-    ensures in_limits { IfOk result (All (IsOperation kinds.now)) }
+    ensures { Gives (each (spec.op_typed kinds.now) [] ops.now) result }
 {
     let mut typed = Items::new(alloc);
     for op in ops {
@@ -127,15 +120,14 @@ fn ops_typed(alloc: Global, kinds: &[KindDecl], ops: &[TreeOp]) -> Result<Items<
 }
 
 fn has_root_kind(kinds: &[KindDecl]) -> bool
-    ensures { result ≡ list_any spec.is_root kinds.now }
+    ensures { result ≡ list_any is_root kinds.now }
 {
     kinds.iter().any(|kind| kind.is_root)
 }
 
 fn module_typed(alloc: Global, tree: &Tree) -> Result<Module, TypeFault>
     requires { IsBounded tree.now }
-    ensures gives { Gives (spec.typed tree.now) result }
-    ensures in_limits { IfOk result IsModuleInLimits }
+    ensures { Gives (spec.typed tree.now) result }
 {
     let kinds = kinds_typed(alloc, tree.kinds.as_slice())?;
     let ops = ops_typed(alloc, kinds.as_slice(), tree.ops.as_slice())?;
@@ -163,7 +155,13 @@ pub fn check(alloc: Global, tree: &Tree) -> Result<Module, TypeFault>
     ensures fault { IfErr result (λ fault. fault ≢ TypeFault.Memory → IsTypeFault tree.now fault) }
     ensures only_fault { (fault : FaultOf) → IsTypeFault tree.now fault → MatchResult result (λ _. ⊥) (λ found. found ≢ TypeFault.Memory → found ≡ fault) }
 
-    ensures in_limits { IfOk result IsModuleInLimits }
+    // What is answered is a checked module.
+    ensures checked { IfOk result IsChecked }
 {
     module_typed(alloc, tree)
 }
+
+/// That the module that a tree is, is checked: all that it names by a number is there, types fit, and limits hold.
+pub fn checked_modules()
+    ensures { TypedIsChecked }
+{}

@@ -1,5 +1,4 @@
-ghost use Rattle.std.specs.Prelude.{◌≡◌, ◌+◌, ◌<◌, ◌≤◌, ◌^◌, length, IfSome, Some};
-ghost use Rattle.dl_types.specs.Checked.{sort_of};
+ghost use Rattle.std.specs.Prelude.{◌≡◌, ◌+◌, ◌<◌, ◌≤◌, ◌^◌, length};
 ghost use Rattle.dl_types.specs.Names.{field_named, local_named, kind_named, tree_kind_named, has_op, local_of};
 
 use dl_grammar::TreeKind;
@@ -49,8 +48,7 @@ pub fn local_of(params: &[LocalDecl], vars: &[LocalDecl], name: &[u8]) -> Option
 /// The number of the kind of this name, and whether it is a root kind.
 pub fn kind_named(kinds: &[KindDecl], name: &[u8]) -> Option<(u32, bool)>
     requires { length kinds.now < 2 ^ 32 }
-    ensures value { result ≡ kind_named 0 kinds.now name.now }
-    ensures sort { IfSome result (λ found. sort_of kinds.now found.0 ≡ Some found.1) }
+    ensures { result ≡ kind_named 0 kinds.now name.now }
 {
     let mut number: u32 = 0;
     for kind in kinds {

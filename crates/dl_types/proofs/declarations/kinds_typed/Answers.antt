@@ -3,7 +3,6 @@ use Rattle.std.proofs.lemmas.List.Elements.{All-push}
 use Rattle.std.proofs.lemmas.Grind.{common_steps}
 use Rattle.dl_ir.specs.declared.modules.KindDecl.{KindDecl}
 use Rattle.dl_grammar.specs.declared.tree.TreeKind.{TreeKind}
-use Rattle.dl_types.proofs.Rows.{row_push}
 use Rattle.dl_types.proofs.declarations.kinds_typed.Goals as goal
 
 pub loop-kind-preserved : goal.loop-kind-preserved
@@ -15,6 +14,5 @@ loop-kind-preserved c =
       few_roots = few;
       few_fields = grind (arith, common_steps);
       each_few = rw c.in_ok-push.ensures.ok (All-push (λ (k : KindDecl). length k.fields ≤ 16) c.loop-kind.typed c.in_ok-declared.declared c.loop-kind.invariant.each_few c.in_ok-declared.ensures.few_fields);
-      row = rw c.in_ok-push.ensures.ok (row_push 0 c.loop-kind.next c.loop-kind.typed c.in_ok-declared.declared (omega (arith, c.loop-kind.invariant.roots)) c.loop-kind.invariant.row c.in_ok-declared.ensures.roots (omega (arith, few)));
       left = grind (arith, common_steps);
     }

@@ -1,5 +1,4 @@
-use Rattle.std.proofs.Common.{◌≡◌, drop, [], length, All}
-use Rattle.dl_types.specs.Checked.{IsParam}
+use Rattle.std.proofs.Common.{◌≡◌, drop, [], length}
 use Rattle.dl_types.specs.Checks.{each}
 use Rattle.dl_types.specs.Declarations.{param_typed}
 use Rattle.dl_types.proofs.declarations.params_typed.Given as goal
@@ -7,6 +6,5 @@ use Rattle.dl_types.proofs.declarations.params_typed.Given as goal
 abbrev pub invariant-loop-param : goal.invariant-loop-param
 invariant-loop-param l = record {
   count : length l.typed ≡ l.param-index;
-  refers : All (IsParam l.kinds) l.typed;
   left : each (param_typed l.kinds) l.typed (drop l.param-index l.params) ≡ each (param_typed l.kinds) [] l.params;
 }

@@ -1,5 +1,4 @@
-use Rattle.std.proofs.Common.{◌≡◌, drop, [], length, All}
-use Rattle.dl_types.specs.Checked.{IsVar}
+use Rattle.std.proofs.Common.{◌≡◌, drop, [], length}
 use Rattle.dl_types.specs.Checks.{each}
 use Rattle.dl_types.specs.Declarations.{var_typed}
 use Rattle.dl_types.proofs.declarations.vars_typed.Given as goal
@@ -7,6 +6,5 @@ use Rattle.dl_types.proofs.declarations.vars_typed.Given as goal
 abbrev pub invariant-loop-var : goal.invariant-loop-var
 invariant-loop-var l = record {
   count : length l.typed ≡ l.var-index;
-  refers : All (IsVar l.kinds) l.typed;
   left : each (var_typed l.kinds l.params) l.typed (drop l.var-index l.vars) ≡ each (var_typed l.kinds l.params) [] l.vars;
 }

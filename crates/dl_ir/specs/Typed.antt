@@ -1,4 +1,4 @@
--- What a checked module says of its statements: which locals, fields and kinds fit where.
+-- Which locals, fields and kinds fit where in the statements of an operation.
 use Rattle.std.specs.Prelude.{◌≡◌, ℕ, ℤ, Bool, Some, List, [], ◌∷◌, ◌++◌, map, slice_get}
 use Rattle.dl_ir.specs.declared.expressions.Op.{Op}
 use Rattle.dl_ir.specs.declared.expressions.Rel.{Rel}
@@ -90,8 +90,3 @@ mutual
 -- a field that is a reference refers to nodes
 abbrev pub FieldsReferToNodes : Module → Type 0
 FieldsReferToNodes source = (kind f target : ℕ) → HasFieldOf source kind f (Of target) → IsNodeKind source target
-
--- a module is typed: no field refers to roots, and the body of each operation is typed
-pub record IsTypedModule (source : Module) : Type 0 where
-  pub fields : FieldsReferToNodes source
-  pub bodies : (number : ℕ) (op : OpDecl) → slice_get source.ops number ≡ Some op → IsTypedBlock source (types_of op) op.body

@@ -1,0 +1,123 @@
+-- A call of a checked module has one outcome, and leaves a heap of the module.
+use Rattle.std.proofs.Common.{◌≡◌, ℕ, zero, suc, ◌+◌, ◌<◌, ◌≤◌, ℤ, List, [], ◌∷◌, map, max, fold, refl, sym, ap, subst, ◌∙◌, Option, Some, None, arith, All, inl, inr, slice_get}
+use Rattle.std.specs.Prelude.{option_and_then}
+use Rattle.std.specs.List.{zip}
+use Rattle.std.specs.FinMap as finite
+use Rattle.dl_ir.specs.declared.answers.Entry.{Entry}
+use Rattle.dl_ir.specs.declared.calls.Call.{Call}
+use Rattle.dl_ir.specs.declared.modules.LocalDecl.{LocalDecl}
+use Rattle.dl_ir.specs.declared.modules.Module.{Module}
+use Rattle.dl_ir.specs.declared.modules.OpDecl.{OpDecl}
+use Rattle.dl_ir.specs.declared.modules.Ty.{Ty}
+use Rattle.dl_ir.specs.declared.modules.Ty.TheVariants as types
+use Rattle.dl_ir.specs.declared.names.Name.{Name}
+use Rattle.dl_ir.specs.declared.names.Value.{Value}
+use Rattle.dl_ir.specs.declared.names.Value.TheVariants as values
+use Rattle.dl_ir.specs.declared.objects.Obj.{Obj}
+use Rattle.dl_ir.specs.CallForms.{AllFit, FitsType, IsCallOf}
+use Rattle.dl_ir.specs.Checked.{IsChecked, IsOperation}
+use Rattle.dl_ir.specs.Cover.{call_at}
+use Rattle.dl_ir.specs.Heap.{Objects, IsHeapOf, root}
+use Rattle.dl_ir.specs.Typed.{types_of}
+use Rattle.dl_shape.specs.Operation.{root_number, argument_value, result_of, operated_where}
+use Rattle.dl_shape.specs.Replay.{after_call, greatest_ticket, IsLegalFrom, ends, goes_on}
+use Rattle.dl_shape.proofs.Members.{Held, In, in_entries}
+use Rattle.dl_meaning.specs.FirstStates.{AllHold, HasTicketsBelow}
+use Rattle.dl_meaning.specs.Fitting.{Fits, HoldsType}
+use Rattle.dl_meaning.specs.Operations.{context_of, begun, OperationsHaveOneOutcome, CallsGiveTheOutcome, CallsLeaveHeaps, AreFilesOf, RisesFrom, ReplaysLeaveHeaps, LegalReplaysLeaveHeaps}
+use Rattle.dl_meaning.proofs.First.{first_states_fit, roots_are_held}
+use Rattle.dl_meaning.proofs.One.{one}
+use Rattle.dl_meaning.proofs.Places.{all_at}
+use Rattle.dl_meaning.proofs.Settled.{heap_settled, settled_below}
+use Rattle.dl_meaning.proofs.Sound.{sound_block}
+
+-- the values of arguments
+abbrev given : List LocalDecl → List ℤ → List Value
+given params arguments = map (λ (pair : LocalDecl × ℤ). argument_value pair.0.ty pair.1) (zip params arguments)
+
+one_held : (source : Module) (h : Objects) (t : Ty) (argument : ℤ) → IsHeapOf source h → FitsType source t argument → HoldsType h t (argument_value t argument)
+one_held source h types.Int argument heap fits = tt
+one_held source h (types.Of kind) argument heap fits =
+    subst (λ n. HoldsType h (types.Of kind) (values.Ref (Some (root n)))) (sym (ap root_number fits.is_number)) (roots_are_held source h kind argument heap fits)
+
+all_held : (source : Module) (h : Objects) (params : List LocalDecl) (arguments : List ℤ) → IsHeapOf source h → AllFit source params arguments → AllHold h params (given params arguments)
+all_held source h [] [] heap fits = tt
+all_held source h [] (a ∷ rest) heap fits = absurd fits
+all_held source h (p ∷ params) [] heap fits = absurd fits
+all_held source h (p ∷ params) (a ∷ rest) heap fits = (one_held source h p.ty a heap fits.0, all_held source h params rest heap fits.1)
+
+-- an operation begins in a state that fits
+begun_fits : (source : Module) (op : OpDecl) (arguments : List ℤ) (h : Objects) (ticket turns : ℕ) → AllFit source op.params arguments → IsHeapOf source h → 0 < ticket → HasTicketsBelow ticket h
+    → Fits (context_of source ticket op) (types_of op) (begun op arguments h turns)
+begun_fits source op arguments h ticket turns fits heap positive below =
+    first_states_fit (context_of source ticket op) op (given op.params arguments) h turns heap positive below (all_held source h op.params arguments heap fits)
+
+pub operations_have_one_outcome : OperationsHaveOneOutcome
+operations_have_one_outcome source number op arguments h ticket turns checked declared fits heap positive below =
+    one (context_of source ticket op) (types_of op) op.body (begun op arguments h turns) checked.fields (all_at (IsOperation source) source.ops number op checked.ops declared).body
+    (begun_fits source op arguments h ticket turns fits heap positive below)
+
+pub calls_give_the_outcome : CallsGiveTheOutcome
+calls_give_the_outcome source h ticket call op after end declared runs =
+    ap (operated_where source h ticket call.args) declared ∙ ap result_of (sound_block (context_of source ticket op) runs)
+
+-- what fits when an operation has ended leaves a heap of the module
+pub calls_leave_heaps : CallsLeaveHeaps
+calls_leave_heaps source h ticket call checked of_module heap positive below =
+    let op = of_module.op in
+    let there = operations_have_one_outcome source call.op op call.args h ticket op.fuel checked of_module.declared of_module.fits heap positive below in
+    let same = ap (λ r. r.objects) (calls_give_the_outcome source h ticket call op there.after there.end of_module.declared there.runs) in (
+      subst (IsHeapOf source) (sym same) (heap_settled source there.after.objects there.fits.heap),
+      subst (HasTicketsBelow (ticket + 1)) (sym same) (settled_below (ticket + 1) there.after.objects (λ q p is. let early = there.fits.not_later q p is in omega (arith, early))),
+    )
+
+-- ---- replays
+then_some : {A B : Type 0} (o : Option A) (next : A → Option B) (b : B) → option_and_then next o ≡ Some b → (a : A) × (o ≡ Some a) × (next a ≡ Some b)
+then_some None next b e = cc
+then_some (Some a) next b e = (a, refl, e)
+
+-- the calls of the files are calls of the module
+call_of : (source : Module) (files : List (List Call)) (caller index : ℕ) (call : Call) → AreFilesOf source files → call_at files caller index ≡ Some call → IsCallOf source call
+call_of source files zero index call all is = cc
+call_of source files (suc caller) zero call all is = cc
+call_of source files (suc caller) (suc index) call all is =
+    let file = then_some (slice_get files caller) (λ (calls : List Call). slice_get calls index) call is in
+    all_at (IsCallOf source) file.0 index call (all_at (λ calls. All (IsCallOf source) calls) files caller file.0 all file.1) file.2
+
+-- what an entry leaves
+after_left : (source : Module) (files : List (List Call)) (ticket caller index : ℕ) (h : Objects) (found : Option Call) → IsChecked source → AreFilesOf source files → IsHeapOf source h → 0 < ticket
+    → HasTicketsBelow ticket h → call_at files caller index ≡ found → IsHeapOf source (after_call source h ticket found) × HasTicketsBelow (ticket + 1) (after_call source h ticket found)
+after_left source files ticket caller index h None checked all heap positive below is = (heap, λ q p there. let early = below q p there in omega (arith, early))
+after_left source files ticket caller index h (Some call) checked all heap positive below is = calls_leave_heaps source h ticket call checked (call_of source files caller index call all is) heap positive below
+
+pub replays_leave_heaps : ReplaysLeaveHeaps
+replays_leave_heaps source files ticket h [] checked all heap positive below rises = heap
+replays_leave_heaps source files ticket h (entry ∷ rest) checked all heap positive below rises =
+    let later : HasTicketsBelow entry.ticket h = λ q p there. let early = below q p there in omega (arith, early, rises.0) in
+    let left = after_left source files entry.ticket entry.caller entry.index h (call_at files entry.caller entry.index) checked all heap (omega (arith, positive, rises.0)) later refl in
+    replays_leave_heaps source files (entry.ticket + 1) (after_call source h entry.ticket (call_at files entry.caller entry.index)) rest checked all left.0 (omega arith) left.1 rises.1
+
+-- the tickets of a legal history rise
+rises_from : {source : Module} {files : List (List Call)} {ticket : ℕ} {h : Objects} {history : List Entry} → IsLegalFrom source files ticket h history → RisesFrom ticket history
+rises_from ends = tt
+rises_from (goes_on {ticket = ticket} {rest = rest} call own named answer legal) =
+    (omega (arith, own), subst (λ t. RisesFrom (t + 1) rest) (sym own) (rises_from legal))
+
+-- no ticket is above the greatest
+in_greatest : (start : ℕ) (es : Held) → start ≤ fold (λ greatest (entry : Name × Obj). max greatest entry.0.ticket) start es
+in_greatest start [] = omega arith
+in_greatest start (e ∷ es) = let rest = in_greatest (max start e.0.ticket) es in omega (arith, rest)
+
+at_most : (start : ℕ) (es : Held) (e : Name × Obj) → In e es → e.0.ticket ≤ fold (λ greatest (entry : Name × Obj). max greatest entry.0.ticket) start es
+at_most start [] e is = absurd is
+at_most start (x ∷ es) e is = elim is [
+  | inl same ↦ let rest = in_greatest (max start x.0.ticket) es in let own = ap (λ (y : Name × Obj). y.0.ticket) same in omega (arith, rest, own)
+  | inr there ↦ at_most (max start x.0.ticket) es e there
+]
+
+pub below_next : (h : Objects) → HasTicketsBelow (greatest_ticket h + 1) h
+below_next h q p is = let most = at_most 0 (finite.entries h) (q, p) (in_entries h q p is) in omega (arith, most)
+
+pub legal_replays_leave_heaps : LegalReplaysLeaveHeaps
+legal_replays_leave_heaps source files h history checked all heap legal =
+    replays_leave_heaps source files (greatest_ticket h + 1) h history checked all heap (omega arith) (below_next h) (rises_from legal)
