@@ -1,3 +1,15 @@
+mod Checked
+mod CodesOf
+mod Late
+mod Latest
+mod Matched
+mod Moved
+mod Paths
+mod PlainJumps
+mod PlainSteps
+mod Refuted
+mod Rising
+mod SameLists
 pub mod Jumps
 pub mod Loops
 pub mod Operands

@@ -1,3 +1,8 @@
 pub mod Code
+pub mod Drops
+pub mod DropsLaws
+pub mod Matching
+pub mod Paths
+pub mod Shown
 pub mod Jumps
 pub mod Listing

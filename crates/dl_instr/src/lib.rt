@@ -5,11 +5,16 @@
 mod code;
 mod conditions;
 mod copies;
+mod drops;
 mod expressions;
 mod generator;
 mod laws;
 mod listing;
+mod liveness;
+mod matching;
 mod names;
+mod plain;
+mod same;
 mod steps;
 #[cfg(test)]
 mod test_modules;
@@ -17,6 +22,7 @@ mod test_modules;
 mod tests;
 
 pub use code::Code;
+pub use drops::codes_of_modules;
 pub use generator::instrument;
 pub use laws::jumps_land;
 pub use listing::print_code;

@@ -1,4 +1,4 @@
-mod Forest
+pub mod Forest
 mod Looks
 mod Marking
 pub mod Members

@@ -10,4 +10,5 @@ mod tests;
 mod words;
 
 pub use calls::CallsFault;
+pub use number::digits_up_to;
 pub use operation_file::read_calls;

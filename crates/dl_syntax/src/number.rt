@@ -13,7 +13,7 @@ fn is_digit(byte: u8) -> bool
 }
 
 /// The number that digits say, where each byte is one and the number is at most `most`.
-fn digits_up_to(digits: &[u8], most: u64) -> Option<u64>
+pub fn digits_up_to(digits: &[u8], most: u64) -> Option<u64>
     requires { most ≤ 2 ^ 63 }
     ensures { result ≡ at_most most (digits_of digits.now) }
 {

@@ -35,12 +35,12 @@ read_refuses statuses.Memory f path old new cause = tt
 module_refuses : {path : Text} {old new : Source} {status : Status} → NoModule path old new status → IsRefusal status
 module_refuses {path = path} {old = old} {new = new} {status = status} (NoModule.unread cause) = read_refuses status 0 path old new cause
 module_refuses (NoModule.no_memory is within) = subst IsRefusal (sym is) tt
-module_refuses (NoModule.at_fault line why text is told is_fault within) = subst IsRefusal (sym is) tt
+module_refuses (NoModule.at_fault line why text is told short is_fault within) = subst IsRefusal (sym is) tt
 
 calls_refuse : {source : Module} {file : ℕ} {path : Text} {old new : Source} {status : Status} → NoCalls source file path old new status → IsRefusal status
 calls_refuse {file = file} {path = path} {old = old} {new = new} {status = status} (NoCalls.unread cause) = read_refuses status file path old new cause
 calls_refuse (NoCalls.no_memory is within) = subst IsRefusal (sym is) tt
-calls_refuse (NoCalls.at_fault line why text is told is_fault within) = subst IsRefusal (sym is) tt
+calls_refuse (NoCalls.at_fault line why text is told short is_fault within) = subst IsRefusal (sym is) tt
 
 refuses : {task : Task} {old new : Source} {status : Status} → Refuses task old new status → IsRefusal status
 refuses (Refuses.no_module cause) = module_refuses cause
@@ -77,10 +77,10 @@ refused_long : {task : Task} {old new : Source} {status : Status} (file : ℕ) �
     limit_of file < new.given → status ≡ statuses.TooLong file
 refused_long {task = task} {old = old} {new = new} {status = status} file (Refuses.no_module (NoModule.unread cause)) is more = read_long status 0 task.first old new file cause is more
 refused_long {new = new} file (Refuses.no_module (NoModule.no_memory e within)) is more = within_long new file within is more
-refused_long {new = new} file (Refuses.no_module (NoModule.at_fault line why text e told is_fault within)) is more = within_long new file within is more
+refused_long {new = new} file (Refuses.no_module (NoModule.at_fault line why text e told short is_fault within)) is more = within_long new file within is more
 refused_long {old = old} {new = new} {status = status} file (Refuses.no_calls source before at path source_file files is_path (NoCalls.unread cause)) is more = read_long status (at + 1) path old new file cause is more
 refused_long {new = new} file (Refuses.no_calls source before at path source_file files is_path (NoCalls.no_memory e within)) is more = within_long new file within is more
-refused_long {new = new} file (Refuses.no_calls source before at path source_file files is_path (NoCalls.at_fault line why text e told is_fault within)) is more = within_long new file within is more
+refused_long {new = new} file (Refuses.no_calls source before at path source_file files is_path (NoCalls.at_fault line why text e told short is_fault within)) is more = within_long new file within is more
 refused_long {new = new} file (Refuses.no_memory e within) is more = within_long new file within is more
 
 -- what is in two like texts is the same
@@ -107,10 +107,10 @@ refused_most : {task : Task} {old new : Source} {status : Status} (file : ℕ) �
     new.given ≤ limit_of file + 1
 refused_most {task = task} {old = old} {new = new} {status = status} file (Refuses.no_module (NoModule.unread cause)) is = read_most status 0 task.first old new file cause is
 refused_most {new = new} file (Refuses.no_module (NoModule.no_memory e within)) is = within_most new file within is
-refused_most {new = new} file (Refuses.no_module (NoModule.at_fault line why text e told is_fault within)) is = within_most new file within is
+refused_most {new = new} file (Refuses.no_module (NoModule.at_fault line why text e told short is_fault within)) is = within_most new file within is
 refused_most {old = old} {new = new} {status = status} file (Refuses.no_calls source before at path source_file files is_path (NoCalls.unread cause)) is = read_most status (at + 1) path old new file cause is
 refused_most {new = new} file (Refuses.no_calls source before at path source_file files is_path (NoCalls.no_memory e within)) is = within_most new file within is
-refused_most {new = new} file (Refuses.no_calls source before at path source_file files is_path (NoCalls.at_fault line why text e told is_fault within)) is = within_most new file within is
+refused_most {new = new} file (Refuses.no_calls source before at path source_file files is_path (NoCalls.at_fault line why text e told short is_fault within)) is = within_most new file within is
 refused_most {new = new} file (Refuses.no_memory e within) is = within_most new file within is
 
 -- the clauses of a call that ends so

@@ -37,7 +37,7 @@ told_before path text same told = subst (λ (at : List ℕ → Option (List ℕ)
 
 -- a file that is as it should be later is so before
 pub file_before : {source : Module} {start now : Source} {path : Text} {calls : List Call} → SameFiles start now → IsFile source now path calls → IsFile source start path calls
-file_before {path = path} same file = record { text = file.text; told = told_before path file.text same file.told; spells = file.spells }
+file_before {path = path} same file = record { text = file.text; told = told_before path file.text same file.told; short = file.short; spells = file.spells }
 
 fails_before : {start now new : Source} {file : ℕ} {path : Text} → AfterReading start now → Fails file path now new → Fails file path start new
 fails_before {path = path} after fails = record {
@@ -79,8 +79,8 @@ pub no_calls_before : {source : Module} {start now new : Source} {file : ℕ} {p
 no_calls_before {start = start} {now = now} {new = new} {file = file} {path = path} {status = status} after (NoCalls.unread cause) =
     NoCalls.unread (read_before start now new file path status after cause)
 no_calls_before after (NoCalls.no_memory is within) = NoCalls.no_memory is within
-no_calls_before {path = path} after (NoCalls.at_fault line why text is told is_fault within) =
-    NoCalls.at_fault line why text is (told_before path text after.same told) is_fault within
+no_calls_before {path = path} after (NoCalls.at_fault line why text is told short is_fault within) =
+    NoCalls.at_fault line why text is (told_before path text after.same told) short is_fault within
 
 -- the word at a place
 pub word_at : (words : List (String Global)) (i : ℕ) (word : String Global) → i < length words → word ≡ get_or words i word →

@@ -3,5 +3,8 @@ mod FileLemmas
 mod LoadingLemmas
 mod ReadingLemmas
 mod RunLemmas
+mod FaultLemmas
+mod ToldLemmas
+mod OrderLemmas
 mod WordLemmas
 mod WritingEnds

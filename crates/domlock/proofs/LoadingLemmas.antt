@@ -1,4 +1,4 @@
-use Rattle.std.proofs.Common.{◌≢◌, ℕ, List, Result, Ok, Err, IfErr, refl, sym, ◌∙◌, subst}
+use Rattle.std.proofs.Common.{◌≢◌, ◌≤◌, ℕ, List, length, Result, Ok, Err, IfErr, refl, sym, ◌∙◌, subst}
 use Rattle.dl_io.specs.Source.{Source, Tells}
 use Rattle.dl_ir.specs.declared.modules.Module.{Module}
 use Rattle.dl_ir.specs.declared.calls.Call.{Call}
@@ -20,6 +20,7 @@ use Rattle.domlock.specs.Causes.{NoModule, NoCalls}
 use Rattle.domlock.specs.Loading.{syntax_status, type_status, ParseCause, CallsCause, OpsCause}
 use Rattle.domlock.specs.Reading.{IsWithin}
 use Rattle.domlock.specs.Texts.{calls_fault}
+use Rattle.domlock.specs.Words.{limit_of}
 
 -- a fault of a text is no want of memory
 calls_fault-other : (line : ℕ) (w : OpsWhy) → calls_fault line w ≢ faults.Memory
@@ -39,18 +40,18 @@ ops_cause {source = source} {text = text} found (CallsCause.at_fault line w is i
 ops_cause found (CallsCause.no_memory is is_fault) = OpsCause.no_memory is
 
 -- why a module that was read to its end is not taken
-pub no_source : (old new : Source) (path text : List ℕ) (r : Result Module Status) → Tells (old.bytes_at path) text → IsWithin new →
+pub no_source : (old new : Source) (path text : List ℕ) (r : Result Module Status) → Tells (old.bytes_at path) text → length text ≤ limit_of 0 → IsWithin new →
     IfErr r (ParseCause text) → IfErr r (NoModule path old new)
-no_source old new path text (Ok source) told within cause = tt
-no_source old new path text (Err status) told within (ParseCause.at_fault line w is is_fault) = NoModule.at_fault line w text is told is_fault within
-no_source old new path text (Err status) told within (ParseCause.no_memory is) = NoModule.no_memory is within
+no_source old new path text (Ok source) told short within cause = tt
+no_source old new path text (Err status) told short within (ParseCause.at_fault line w is is_fault) = NoModule.at_fault line w text is told short is_fault within
+no_source old new path text (Err status) told short within (ParseCause.no_memory is) = NoModule.no_memory is within
 
 -- why an operation file that was read to its end is not taken
-pub no_calls : (old new : Source) (source : Module) (file : ℕ) (path text : List ℕ) (r : Result (List Call) Status) → Tells (old.bytes_at path) text → IsWithin new →
+pub no_calls : (old new : Source) (source : Module) (file : ℕ) (path text : List ℕ) (r : Result (List Call) Status) → Tells (old.bytes_at path) text → length text ≤ limit_of file → IsWithin new →
     IfErr r (OpsCause source text file) → IfErr r (NoCalls source file path old new)
-no_calls old new source file path text (Ok calls) told within cause = tt
-no_calls old new source file path text (Err status) told within (OpsCause.at_fault line w is is_fault) = NoCalls.at_fault line w text is told is_fault within
-no_calls old new source file path text (Err status) told within (OpsCause.no_memory is) = NoCalls.no_memory is within
+no_calls old new source file path text (Ok calls) told short within cause = tt
+no_calls old new source file path text (Err status) told short within (OpsCause.at_fault line w is is_fault) = NoCalls.at_fault line w text is told short is_fault within
+no_calls old new source file path text (Err status) told short within (OpsCause.no_memory is) = NoCalls.no_memory is within
 
 -- the status of a fault of a text has the cause that the fault has
 pub syntax_cause : (text : List ℕ) (fault : SyntaxFault) → (fault ≢ syntax.Memory → IsSyntaxFault text fault) → ParseCause text (syntax_status fault)

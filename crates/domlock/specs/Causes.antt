@@ -1,4 +1,4 @@
-use Rattle.std.specs.Prelude.{◌≡◌, ℕ, ◌+◌, List, ◌++◌, Some, take}
+use Rattle.std.specs.Prelude.{◌≡◌, ℕ, ◌+◌, ◌≤◌, List, ◌++◌, Some, length, take}
 use Rattle.dl_io.specs.Faults.{Rose}
 use Rattle.dl_io.specs.Source.{Source, Tells}
 use Rattle.dl_io.specs.Taken.{Taken, Took}
@@ -10,7 +10,7 @@ use Rattle.domlock.specs.declared.status.ModuleWhy.{ModuleWhy}
 use Rattle.domlock.specs.declared.status.OpsWhy.{OpsWhy}
 use Rattle.domlock.specs.Reading.{ReadCause, IsWithin}
 use Rattle.domlock.specs.Texts.{IsModuleFault, IsOpsFault, IsModuleFile, AreFiles}
-use Rattle.domlock.specs.Words.{Text, Task, path_of}
+use Rattle.domlock.specs.Words.{Text, Task, limit_of, path_of}
 
 -- why the module of a command was not taken
 pub data NoModule (path : Text) (old new : Source) (status : Status) : Type 0 where
@@ -18,7 +18,7 @@ pub data NoModule (path : Text) (old new : Source) (status : Status) : Type 0 wh
   no_memory : status ≡ statuses.Memory → IsWithin new → NoModule path old new status
   -- the file was read to its end, and this is the fault of its text
   at_fault : (line : ℕ) (why : ModuleWhy) (text : Text) → status ≡ statuses.ModuleFault line why → Tells (old.bytes_at path) text
-      → IsModuleFault text line why → IsWithin new → NoModule path old new status
+      → length text ≤ limit_of 0 → IsModuleFault text line why → IsWithin new → NoModule path old new status
 
 -- why an operation file was not taken
 pub data NoCalls (source : Module) (file : ℕ) (path : Text) (old new : Source) (status : Status) : Type 0 where
@@ -26,7 +26,7 @@ pub data NoCalls (source : Module) (file : ℕ) (path : Text) (old new : Source)
   no_memory : status ≡ statuses.Memory → IsWithin new → NoCalls source file path old new status
   -- the file was read to its end, and this is the first fault of its text
   at_fault : (line : ℕ) (why : OpsWhy) (text : Text) → status ≡ statuses.OpsFault file line why → Tells (old.bytes_at path) text
-      → IsOpsFault source text line why → IsWithin new → NoCalls source file path old new status
+      → length text ≤ limit_of file → IsOpsFault source text line why → IsWithin new → NoCalls source file path old new status
 
 -- why the files of a command were not taken: the module was not, or it was and so were the files before one that was not
 pub data Refuses (task : Task) (old new : Source) (status : Status) : Type 0 where

@@ -4,4 +4,5 @@ pub mod Status
 pub mod Texts
 pub mod Causes
 pub mod Loading
+pub mod Told
 pub mod Promise

@@ -1,4 +1,4 @@
-use Rattle.std.specs.Prelude.{◌≡◌, ℕ, List, [], Some, None}
+use Rattle.std.specs.Prelude.{◌≡◌, ℕ, List, [], Some, None, All}
 use Rattle.dl_io.specs.Source.{Source}
 use Rattle.dl_io.specs.Taken.{Taken, Took}
 use Rattle.dl_ir.specs.declared.modules.Module.{Module}
@@ -7,8 +7,10 @@ use Rattle.dl_ir.specs.declared.answers.Entry.{Entry}
 use Rattle.dl_ir.specs.declared.answers.Refusal.{Refusal}
 use Rattle.dl_ir.specs.Cover.{Covers}
 use Rattle.dl_ir.specs.Heap.{start_objects}
+use Rattle.dl_shape.specs.Closed.{IsForestClosed}
 use Rattle.dl_shape.specs.Pool.{IsLawfulPool}
 use Rattle.dl_shape.specs.Replay.{IsLegal, replayed}
+use Rattle.dl_closed.specs.Unsealed.{IsUnsealed}
 use Rattle.dl_history.specs.Report.{report}
 use Rattle.domlock.specs.declared.status.Status.{Status}
 use Rattle.domlock.specs.declared.status.Status.TheVariants as statuses
@@ -18,11 +20,13 @@ use Rattle.domlock.specs.Texts.{Spells}
 use Rattle.domlock.specs.Words.{Text, Task, task_of_words}
 
 -- what running the calls of a module came to, from its start heap and with so many places: each operation stands once, in
--- the history or among the refusals; every answer is that of the serial meaning; and the pool is lawful
+-- the history or among the refusals; every answer is that of the serial meaning; the pool is lawful; and where every serial
+-- run ends each operation in a forest, no answer tells of a sealed object
 pub record IsRun (source : Module) (all : List (List Call)) (places : ℕ) (history : List Entry) (refusals : List Refusal) : Type 0 where
   pub covers : Covers all history refusals
   pub legal : IsLegal source all (start_objects source) history
   pub lawful : IsLawfulPool places source all (start_objects source) history refusals
+  pub unsealed : IsForestClosed source (start_objects source) → All (λ (entry : Entry). IsUnsealed entry.answer) history
 
 -- the report of a run, with the heap that its history leads to
 abbrev pub report_of : Module → List (List Call) → List Entry → List Refusal → Text
@@ -36,7 +40,7 @@ pub record Ran (words : List Text) (files : Source) (history : List Entry) (refu
   pub source : Module
   pub all : List (List Call)
   pub spells : Spells files task source all
-  pub run : IsRun source all 4096 history refusals
+  pub run : IsRun source all task.places history refusals
   pub is_report : text ≡ report_of source all history refusals
 
 -- what the sink took of a text

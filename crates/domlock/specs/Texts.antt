@@ -1,4 +1,4 @@
-use Rattle.std.specs.Prelude.{ℕ, List, [], ◌∷◌}
+use Rattle.std.specs.Prelude.{ℕ, ◌≤◌, List, [], ◌∷◌, length}
 use Rattle.dl_io.specs.Source.{Source, Tells}
 use Rattle.dl_ir.specs.declared.modules.Module.{Module}
 use Rattle.dl_ir.specs.declared.calls.Call.{Call}
@@ -15,7 +15,7 @@ use Rattle.domlock.specs.declared.status.ModuleWhy.{ModuleWhy}
 use Rattle.domlock.specs.declared.status.ModuleWhy.TheVariants as modules
 use Rattle.domlock.specs.declared.status.OpsWhy.{OpsWhy}
 use Rattle.domlock.specs.declared.status.OpsWhy.TheVariants as calls
-use Rattle.domlock.specs.Words.{Text, Task}
+use Rattle.domlock.specs.Words.{Text, Task, limit_of}
 
 -- the text spells a tree, and the tree is this module
 pub record IsModuleText (text : Text) (source : Module) : Type 0 where
@@ -59,10 +59,11 @@ calls_fault line calls.NoRoot = faults.NoRoot line
 abbrev pub IsOpsFault : Module → Text → ℕ → OpsWhy → Type 0
 IsOpsFault source text line why = IsCallsFault source text (calls_fault line why)
 
--- the bytes at a path are an operation file with these calls
+-- the bytes at a path, at most as many as an operation file may have, are one with these calls
 pub record IsFile (source : Module) (files : Source) (path : Text) (calls : List Call) : Type 0 where
   pub text : Text
   pub told : Tells (files.bytes_at path) text
+  pub short : length text ≤ limit_of 1
   pub spells : IsCallsFile source text calls
 
 -- the bytes at each path are an operation file with the calls at its place
@@ -72,10 +73,11 @@ AreFiles source files [] (calls ∷ rest) = ⊥
 AreFiles source files (path ∷ paths) [] = ⊥
 AreFiles source files (path ∷ paths) (calls ∷ rest) = IsFile source files path calls × AreFiles source files paths rest
 
--- the bytes at the path of a module are its text
+-- the bytes at the path of a module, at most as many as it may have, are its text
 pub record IsModuleFile (files : Source) (path : Text) (source : Module) : Type 0 where
   pub text : Text
   pub told : Tells (files.bytes_at path) text
+  pub short : length text ≤ limit_of 0
   pub spells : IsModuleText text source
 
 -- the files of a command spell a module and operation files with these calls

@@ -15,9 +15,6 @@ use dl_text::Out;
 use sqlite_items::Items;
 use std::alloc::{AllocError, Global};
 
-// How many hidden objects there may be at a time.
-const PLACES: u32 = 4_096;
-
 /// What running the calls of a command came to.
 #[derive(Drop)]
 pub struct Run {
@@ -26,17 +23,19 @@ pub struct Run {
     pub heap: Heap,
 }
 
-/// Runs the calls of one file, one after another, from the start heap of their module.
-pub fn run_input(alloc: Global, input: &Input) -> Result<Run, AllocError>
+/// Runs the calls of one file, one after another, from the start heap of their module, with so many hidden objects at a
+/// time at most.
+pub fn run_input(alloc: Global, input: &Input, places: u32) -> Result<Run, AllocError>
+    requires places { (1 ≤ places) × (places ≤ 65536) }
     requires start { HasStart input.now.source }
     requires one { length input.now.all.items ≡ 1 }
     requires calls { All (AreCallsOf input.now.source) input.now.all.items }
-    ensures run { IfOk result (λ run. IsRun input.now.source input.now.all.items 4096 run.history.entries run.refusals) }
+    ensures run { IfOk result (λ run. IsRun input.now.source input.now.all.items places run.history.entries run.refusals) }
     ensures heap { IfOk result (λ run. run.heap.objects ≡ replayed input.now.source input.now.all.items (start_objects input.now.source) run.history.entries) }
     ensures moves { IfOk result (λ run. run.history.moves ≡ in_rising_versions (moves_of input.now.source input.now.all.items run.history.entries)) }
 {
-    let mut heap = Heap::start(alloc, &input.source, PLACES)?;
-    let served = run_calls(alloc, &input.source, &mut heap, PLACES, 1, &input.all[0])?;
+    let mut heap = Heap::start(alloc, &input.source, places)?;
+    let served = run_calls(alloc, &input.source, &mut heap, places, 1, &input.all[0])?;
     let history = History::new(alloc, &input.source, input.all.as_slice(), served.entries)?;
     Ok(Run {
         history,

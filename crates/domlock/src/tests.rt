@@ -1,15 +1,13 @@
 ghost use Rattle.std.specs.Prelude.{◌≤◌};
 
-use crate::status::{Status, exit_code, status_line};
+use crate::status::{OpsWhy, Status, exit_code, status_line};
 use crate::top::{Outcome, domlock_still};
 use crate::words::Words;
 use dl_io::{MemFiles, MemSink};
+use dl_modules::{COUNTER, SKEW};
 use dl_text::Out;
 use std::alloc::Global;
 use std::test::Fail;
-
-const COUNTER: &[u8] =
-    b"domlock 1\nroot CELL 2 { val: int }\nop add(r: CELL, n: int) allocs 0 fuel 0 {\n  var v: int;\n  v = r.val;\n  v = v + n;\n  r.val = v;\n  return v;\n}\n";
 
 const TWICE: &[u8] =
     b"domlock report 1\nanswers 2\n1.1 ok 5\n1.2 ok 12\nhistory 2\n1 1.1 add 0 5\n2 1.2 add 0 7\npool 0\nheap 2 kept 0\n0.0 CELL val=12\n0.1 CELL val=0\nend\n";
@@ -196,6 +194,217 @@ fn each_refusal_has_its_line_and_code(rt: HostRuntime) -> Result<(), Fail> {
         assert_eq!(rt; line_of(rt.alloc(), &outcome.status)?.bytes(), want);
         assert_eq!(rt; sink.bytes(), b"".as_slice());
     }
+    Ok(())
+}
+
+// What a call on these words, a counter module and one operation answers.
+fn status_of_words(alloc: Global, words: &Words) -> Result<Status, Fail> {
+    let mut files = MemFiles::new(alloc, 100, &[])?;
+    files.add("m", COUNTER)?;
+    files.add("o", b"add 0 5\n")?;
+    let mut sink = MemSink::new(alloc, 1000, &[], 1000)?;
+    Ok(domlock_still(alloc, words, &mut files, &mut sink).status)
+}
+
+#[test]
+fn words_that_are_no_command(rt: HostRuntime) -> Result<(), Fail> {
+    let lines = [
+        "",
+        "serial",
+        "serial m",
+        "serial m o o",
+        "serial m o o o",
+        "walk m o",
+        "Serial m o",
+        "serial m o --places",
+        "serial m o --places 0",
+        "serial m o --places 00",
+        "serial m o --places 65537",
+        "serial m o --places 18446744073709551617",
+        "serial m o --places +1",
+        "serial m o --places -1",
+        "serial m o --places 1x",
+        "serial m o --places ",
+        "serial m o --place 1",
+        "serial m o --places=1",
+        "serial m o --places 1 1",
+        "serial --places 1 m o",
+    ];
+    for line in lines {
+        let words = words_of(rt.alloc(), line)?;
+        assert_eq!(rt;
+            status_of_words(rt.alloc(), &words)?,
+            Status::Usage,
+            "{line}"
+        );
+    }
+    let none = Words::new(Vec::new(rt.alloc()));
+    assert_eq!(rt; status_of_words(rt.alloc(), &none)?, Status::Usage);
+    Ok(())
+}
+
+#[test]
+fn words_with_a_number_of_places(rt: HostRuntime) -> Result<(), Fail> {
+    let lines = [
+        "serial m o",
+        "serial m o --places 1",
+        "serial m o --places 65536",
+        "serial m o --places 0000000000000000000000007",
+    ];
+    for line in lines {
+        let words = words_of(rt.alloc(), line)?;
+        assert_eq!(rt;
+            status_of_words(rt.alloc(), &words)?,
+            Status::Done,
+            "{line}"
+        );
+    }
+    Ok(())
+}
+
+#[test]
+fn one_place_leaves_no_room(rt: HostRuntime) -> Result<(), Fail> {
+    let want: &[u8] =
+        b"domlock report 1\nanswers 4\n1.1 ok 0\n1.2 noroom need 1 found 0 version 1\n1.3 ok 5\n1.4 ok 0\nhistory 3\n1 1.1 insert 0 5\n2 1.3 pop 0\n3 1.4 insert 0 4\npool 3\n1 -1 1\n2 +1 2\n3 -1 3\nheap 5 kept 1\n0.0 HEAP top=3.1\n0.1 HEAP top=-\n0.2 HEAP top=-\n0.3 HEAP top=-\n3.1 NODE key=4 left=- right=-\nend\n";
+    let ops = b"insert 0 5\ninsert 0 3\npop 0\ninsert 0 4\n";
+    let mut sink = MemSink::new(rt.alloc(), 1000, &[], 1000)?;
+    let outcome = call(rt.alloc(), "serial m o --places 1", SKEW, ops, &mut sink)?;
+    assert_eq!(rt; outcome.status, Status::Done);
+    assert_eq!(rt; sink.bytes(), want);
+    assert_eq!(rt; outcome.history.entries.len(), 3);
+    assert_eq!(rt; outcome.refusals.len(), 1);
+    Ok(())
+}
+
+#[test]
+fn each_fault_of_a_module_has_its_line(rt: HostRuntime) -> Result<(), Fail> {
+    let table: [(&[u8], &[u8]); 18] = [
+        (
+            b"domlock 1\nroot R 1 { \xc3\xa4: int }\n",
+            b"domlock: module line 2: NotAscii\n",
+        ),
+        (
+            b"domlock 1\nroot R 1 { a$: int }\n",
+            b"domlock: module line 2: BadByte\n",
+        ),
+        (
+            b"domlock 1\nroot R 9223372036854775809 { }\n",
+            b"domlock: module line 2: BigNumber\n",
+        ),
+        (
+            b"domlock 1\nroot R 1 { }\n12\n",
+            b"domlock: module line 3: Expected\n",
+        ),
+        (
+            b"domlock 1\nroot R 1 { a: int }\nop f(r: R) allocs 0 fuel 0 { return ---------------------------------1; }\n",
+            b"domlock: module line 3: TooDeep\n",
+        ),
+        (
+            b"domlock 1\nroot R 1 { }\nnode A { } node B { } node C { } node D { } node E { } node F { } node G { } node H { }\nnode I { } node J { } node K { } node L { } node M { } node N { } node O { }\nnode P { }\n",
+            b"domlock: module line 5: Limit Kinds\n",
+        ),
+        (
+            b"domlock 1\nroot R 1 { a: int, b: int, c: int, d: int, e: int, f: int, g: int, h: int,\n  i: int, j: int, k: int, l: int, m: int, n: int, o: int, p: int,\n  q: int }\n",
+            b"domlock: module line 4: Limit Fields\n",
+        ),
+        (
+            b"domlock 1\nroot R 0 { }\n",
+            b"domlock: module line 2: Limit Roots\n",
+        ),
+        (
+            b"domlock 1\nroot R 1 { }\nop f(r: R) allocs 65 fuel 0 { }\n",
+            b"domlock: module line 3: Limit Allocs\n",
+        ),
+        (
+            b"domlock 1\nroot R 1 { }\nop f(r: R) allocs 0 fuel 1000001 { }\n",
+            b"domlock: module line 3: Limit Fuel\n",
+        ),
+        (
+            b"domlock 1\nroot R 1 { }\nop f(r: R) allocs 0 fuel 0 {\n  return 9223372036854775808; }\n",
+            b"domlock: module line 4: Limit Literal\n",
+        ),
+        (
+            b"domlock 1\nroot R 1 { a: N }\n",
+            b"domlock: module line 2: Unknown\n",
+        ),
+        (
+            b"domlock 1\nroot R 1 { }\nop f(x: int) allocs 0 fuel 0 { }\n",
+            b"domlock: module line 3: KindClash\n",
+        ),
+        (
+            b"domlock 1\nroot R 1 { r: R }\n",
+            b"domlock: module line 2: RootInField\n",
+        ),
+        (
+            b"domlock 1\nroot R 1 { n: N }\nnode N { }\nop f(r: R) allocs 1 fuel 0 {\n  var p: N;\n  p = new R;\n}\n",
+            b"domlock: module line 6: NewRoot\n",
+        ),
+        (
+            b"domlock 1\nroot R 2 { }\nop f(r: R, s: R) allocs 0 fuel 0 { r = s; }\n",
+            b"domlock: module line 3: AssignRoot\n",
+        ),
+        (
+            b"domlock 1\nroot R 1 { a: int, a: int }\n",
+            b"domlock: module line 2: Twice\n",
+        ),
+        (
+            b"domlock 1\nnode N { }\n\n",
+            b"domlock: module line 2: NoRoots\n",
+        ),
+    ];
+    for (module, want) in table {
+        let mut sink = MemSink::new(rt.alloc(), 1000, &[], 1000)?;
+        let outcome = call(rt.alloc(), "serial m o", module, b"", &mut sink)?;
+        assert_eq!(rt; exit_code(&outcome.status), 4);
+        assert_eq!(rt; line_of(rt.alloc(), &outcome.status)?.bytes(), want);
+        assert_eq!(rt; sink.bytes(), b"".as_slice());
+    }
+    Ok(())
+}
+
+#[test]
+fn each_fault_of_an_operation_file_has_its_line(rt: HostRuntime) -> Result<(), Fail> {
+    let table: [(&[u8], &[u8]); 7] = [
+        (
+            b"get 0\n# \xc3\xa4\n",
+            b"domlock: file 1 line 2: NotAscii\n",
+        ),
+        (b"get 0\x00\n", b"domlock: file 1 line 1: BadByte\n"),
+        (b"get 0\n\nput 0 1\n", b"domlock: file 1 line 3: NoOp\n"),
+        (b"get 0 0\n", b"domlock: file 1 line 1: ArgCount\n"),
+        (
+            b"add 0 9223372036854775808\n",
+            b"domlock: file 1 line 1: NotNumber\n",
+        ),
+        (b"get 2\n", b"domlock: file 1 line 1: NoRoot\n"),
+        (b"get -1\n", b"domlock: file 1 line 1: NoRoot\n"),
+    ];
+    for (ops, want) in table {
+        let mut sink = MemSink::new(rt.alloc(), 1000, &[], 1000)?;
+        let outcome = call(rt.alloc(), "serial m o", COUNTER, ops, &mut sink)?;
+        assert_eq!(rt; exit_code(&outcome.status), 5);
+        assert_eq!(rt; line_of(rt.alloc(), &outcome.status)?.bytes(), want);
+        assert_eq!(rt; sink.bytes(), b"".as_slice());
+    }
+    Ok(())
+}
+
+#[test]
+fn one_operation_too_many(rt: HostRuntime) -> Result<(), Fail> {
+    let mut ops = Vec::new(rt.alloc());
+    for _ in 0..65_537 {
+        ops.extend_from_slice(b"get 0\n")?;
+    }
+    let mut sink = MemSink::new(rt.alloc(), 1000, &[], 1000)?;
+    let outcome = call(rt.alloc(), "serial m o", COUNTER, &ops, &mut sink)?;
+    assert_eq!(rt;
+        outcome.status,
+        Status::OpsFault {
+            file: 1,
+            line: 65_537,
+            why: OpsWhy::TooMany,
+        }
+    );
     Ok(())
 }
 

@@ -1,7 +1,9 @@
-ghost use Rattle.std.specs.Prelude.{◌≡◌, ◌+◌, ◌≤◌, ◌≢◌, ◌↔◌, ◌<◌, ℕ, List, [], Some, None};
+ghost use Rattle.std.specs.Prelude.{◌≡◌, ◌+◌, ◌≤◌, ◌≢◌, ◌↔◌, ◌<◌, ◌⊎◌, ℕ, List, [], Some, None};
+ghost use Rattle.dl_io.specs.Faults.{Rose};
 ghost use Rattle.dl_io.specs.Taken.{Took};
 ghost use Rattle.domlock.specs.Causes.{Refuses, Cut};
 ghost use Rattle.domlock.specs.Promise.{Ran, Ends};
+ghost use Rattle.domlock.specs.Told.{EndsAsTold, IsInOrder};
 ghost use Rattle.domlock.specs.Words.{Task, limit_of, task_of_words};
 
 use crate::loading::read_input;
@@ -46,7 +48,7 @@ fn run_still<F: Files, K: Sink>(alloc: Global, words: &Words, files: &mut F, out
         Ok(input) => input,
         Err(status) => return nothing(alloc, status),
     };
-    match run_input(alloc, &input) {
+    match run_input(alloc, &input, command.places) {
         Ok(run) => {
             let status = write_run(&input, &run, out);
             Outcome {
@@ -83,6 +85,13 @@ pub fn domlock_still<F: Files, K: Sink>(
     // Each other refusal has its cause.
     ensures causes { result.status ≢ Status.Done → result.status ≢ Status.WriteFault → result.status ≢ Status.Usage →
         (task : Task) × (task_of_words words.now ≡ Some task) × Refuses task (F.source files.old) (F.source files.new) result.status }
+
+    // Where what the files tell calls for a refusal, it is answered, unless a file can't be read or memory runs out.
+    ensures exact { (task : Task) → task_of_words words.now ≡ Some task → EndsAsTold (F.source files.old) task result.status }
+
+    // Where all is in order and the sink does not fail, all is done, unless memory runs out.
+    ensures complete { (task : Task) → task_of_words words.now ≡ Some task → IsInOrder (F.source files.old) task →
+        ¬ Rose (K.taken out.old).faults (K.taken out.new).faults → (result.status ≡ Status.Done) ⊎ (result.status ≡ Status.Memory) }
 
     // Where more than a file's limit was taken of it in this call, nothing else is answered.
     ensures too_long { (F.source files.old).given ≡ 0 → (file : ℕ) → (F.source files.new).attached ≡ Some file →

@@ -1,6 +1,8 @@
-ghost use Rattle.std.specs.Prelude.{◌≡◌, map, option_map, string_bytes, IfSome, length};
+ghost use Rattle.std.specs.Prelude.{◌≡◌, ◌≤◌, map, option_map, string_bytes, IfSome, length};
+ghost use Rattle.domlock.specs.Words as spec;
 ghost use Rattle.domlock.specs.Words.{task_of, task_of_words};
 
+use dl_syntax::digits_up_to;
 use std::marker::Model;
 
 /// The words behind the program's name.
@@ -46,20 +48,51 @@ pub struct Command<'a> {
     pub verb: Verb,
     pub first: &'a str,
     pub rest: &'a [String],
+    /// How many hidden objects there may be at a time.
+    pub places: u32,
 }
 
-/// Reads the words. So far they are `serial`, the path of a module and that of one operation file.
+// The number of places that a word says.
+fn places_in(word: &str) -> Option<u32>
+    ensures value { result ≡ spec.places_in word.now }
+    ensures range { IfSome result (λ places. (1 ≤ places) × (places ≤ 65536)) }
+{
+    match digits_up_to(word.as_bytes(), 65_536)? {
+        0 => None,
+        places => Some(places as u32),
+    }
+}
+
+// The number of places that the last words of a command say.
+fn places_of(last: &[String]) -> Option<u32>
+    ensures value { result ≡ spec.places_of (map string_bytes last.now) }
+    ensures range { IfSome result (λ places. (1 ≤ places) × (places ≤ 65536)) }
+{
+    match last {
+        [] => Some(4_096),
+        [option, number] if option.as_str() == "--places" => places_in(number.as_str()),
+        _ => None,
+    }
+}
+
+/// Reads the words. So far they are `serial`, the path of a module, that of one operation file, and where they are wanted
+/// `--places` and a number.
 pub fn command_of(words: &Words) -> Option<Command<'_>>
     ensures value { option_map task_of result ≡ task_of_words words.now }
     ensures one { IfSome result (λ command. length command.rest.now ≡ 1) }
+    ensures places { IfSome result (λ command. (1 ≤ command.places) × (command.places ≤ 65536)) }
 {
     let items = words.as_slice();
     match items {
-        [command, first, calls] if command.as_str() == "serial" => Some(Command {
-            verb: Verb::Serial,
-            first: first.as_str(),
-            rest: &items[2..],
-        }),
+        [command, first, _, last @ ..] if command.as_str() == "serial" => {
+            let places = places_of(last)?;
+            Some(Command {
+                verb: Verb::Serial,
+                first: first.as_str(),
+                rest: &items[2..3],
+                places,
+            })
+        }
         _ => None,
     }
 }

@@ -1,4 +1,5 @@
 use Rattle.std.proofs.Common.{◌∙◌, refl, sym, arith}
+use Rattle.dl_closed.proofs.Histories.{never_seals}
 use Rattle.dl_serial.proofs.Starting.{greatest_ticket-start, hidden_count-start}
 use Rattle.domlock.proofs.RunLemmas.{one_element}
 use Rattle.domlock.proofs.run.run_input.Goals as goal
@@ -14,7 +15,13 @@ returns-clause-run c =
     let one = one_element c.args.input.now.all.items c.index.result.now c.requires.one c.index.ensures in
     let legal = rw c.in_ok-heap.ensures.start at c.in_ok-served.ensures.legal in
     let lawful = rw c.in_ok-heap.ensures.start at c.in_ok-served.ensures.pool in
-    rw (one, c.in_ok-history.ensures.entries) record { covers = c.in_ok-served.ensures.covers; legal = legal; lawful = lawful }
+    let calls = rw one at c.requires.calls in
+    rw (one, c.in_ok-history.ensures.entries) record {
+      covers = c.in_ok-served.ensures.covers;
+      legal = legal;
+      lawful = lawful;
+      unsealed = λ closed. never_seals _ _ _ _ calls closed legal;
+    }
 
 pub returns-clause-heap : goal.returns-clause-heap
 returns-clause-heap c =

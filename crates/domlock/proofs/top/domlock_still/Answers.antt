@@ -1,4 +1,5 @@
 use Rattle.domlock.proofs.EndLemmas.{ends_done, ends_cut, ends_nothing, ends_usage, ends_no_task, ends_cause, ends_long, ends_most}
+use Rattle.domlock.proofs.OrderLemmas.{ends_as_told, ends_complete}
 use Rattle.domlock.proofs.top.domlock_still.Goals as goal
 
 pub returns : goal.returns
@@ -8,6 +9,8 @@ returns g c = let ends = c.run_still.ensures in record {
   nothing = ends_nothing ends;
   usage = (ends_usage ends, ends_no_task ends);
   causes = ends_cause ends;
+  exact = ends_as_told ends;
+  complete = ends_complete ends;
   too_long = ends_long ends;
   at_most = ends_most ends;
 }
