@@ -1,7 +1,7 @@
 mod First
 mod Heaps
 mod Kept
-mod Left
+pub mod Left
 mod One
 mod Places
 mod Settled

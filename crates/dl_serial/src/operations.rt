@@ -3,7 +3,9 @@ ghost use Rattle.std.specs.List.{zip};
 ghost use Rattle.std.specs.FinMap as finite;
 ghost use Rattle.dl_ir.specs.declared.modules.LocalDecl.{LocalDecl};
 ghost use Rattle.dl_ir.specs.CallForms.{AllFit, IsCallOf};
-ghost use Rattle.dl_ir.specs.Heap.{HasStart, blank};
+ghost use Rattle.dl_ir.specs.Checked.{IsChecked};
+ghost use Rattle.dl_ir.specs.Heap.{HasStart, IsHeapOf, blank};
+ghost use Rattle.dl_meaning.specs.FirstStates.{HasTicketsBelow};
 ghost use Rattle.dl_serial.specs.Arguments.{CanHold, AllHeld};
 ghost use Rattle.dl_serial.specs.Growth.{Grows};
 ghost use Rattle.dl_serial.specs.Rooms.{HasRoomFor, allocs_of};
@@ -24,12 +26,16 @@ pub fn run_op(
     ticket: u64,
     call: &Call,
 ) -> Result<Answer, AllocError>
-    requires start { HasStart source.now }
+    requires checked { IsChecked source.now }
     requires of_module { IsCallOf source.now call.now }
+    requires heap { IsHeapOf source.now heap.old.objects }
     requires ticket { 0 < ticket }
+    requires below { HasTicketsBelow ticket heap.old.objects }
     requires room { HasRoomFor source.now call.now heap.old }
     ensures answer { IfOk result (λ answer. answer ≡ (operated source.now heap.old.objects ticket call.now).answer) }
     ensures left { OnOk result (heap.new ≡ record heap.old { objects = (operated source.now heap.old.objects ticket call.now).objects }) }
+    ensures heap { OnOk result (IsHeapOf source.now heap.new.objects) }
+    ensures below { OnOk result (HasTicketsBelow (ticket + 1) heap.new.objects) }
     ensures grows { OnOk result (Grows heap.old.objects heap.new.objects 0 (allocs_of source.now call.now)) }
 {
     match source.ops.get(call.op as usize) {

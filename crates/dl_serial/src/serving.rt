@@ -1,8 +1,10 @@
 ghost use Rattle.std.specs.Prelude.{◌≡◌, ℕ, ◌+◌, ◌<◌, ◌≤◌, ◌^◌, ◌∷◌, [], List, IfOk, OnOk, Some, length, slice_get};
 ghost use Rattle.dl_ir.specs.CallForms.{IsCallOf, AreCallsOf};
+ghost use Rattle.dl_ir.specs.Checked.{IsChecked};
 ghost use Rattle.dl_ir.specs.Cover.{Covers};
-ghost use Rattle.dl_ir.specs.Heap.{HasStart, Objects, hidden_count};
+ghost use Rattle.dl_ir.specs.Heap.{IsHeapOf, Objects, hidden_count};
 ghost use Rattle.dl_ir.specs.declared.calls.Call.{Call as OneCall};
+ghost use Rattle.dl_meaning.specs.FirstStates.{HasTicketsBelow};
 ghost use Rattle.dl_shape.specs.Operation.{operated};
 ghost use Rattle.dl_shape.specs.Pool.{moves_of, in_rising_versions, IsLawfulPool};
 ghost use Rattle.dl_shape.specs.Replay.{replayed, greatest_ticket, IsLegal};
@@ -46,8 +48,9 @@ pub fn run_calls(
     first: u64,
     calls: &Calls,
 ) -> Result<Served, AllocError>
-    requires start { HasStart source.now }
+    requires checked { IsChecked source.now }
     requires of_module { AreCallsOf source.now calls.now }
+    requires heap { IsHeapOf source.now heap.old.objects }
     requires next { first ≡ greatest_ticket heap.old.objects + 1 }
     requires small { first ≤ 4611686018427387905 }
     requires hidden { hidden_count heap.old.objects ≤ places }
@@ -59,6 +62,7 @@ pub fn run_calls(
     ensures rising { IfOk result (λ served. in_rising_versions (moves_of source.now (calls.now ∷ []) served.entries) ≡ moves_of source.now (calls.now ∷ []) served.entries) }
     ensures pool { IfOk result (λ served. IsLawfulPool places source.now (calls.now ∷ []) heap.old.objects served.entries served.refusals) }
     ensures free { IfOk result (λ served. served.free + hidden_count heap.new.objects ≡ places) }
+    ensures heap { OnOk result (IsHeapOf source.now heap.new.objects) }
 {
     let hidden = hidden_objects(heap);
     let mut line = Line {
@@ -97,8 +101,10 @@ fn serve(
     index: u32,
     line: &mut Line,
 ) -> Result<(), AllocError>
-    requires start { HasStart source.now }
+    requires checked { IsChecked source.now }
     requires of_module { IsCallOf source.now call.now }
+    requires heap { IsHeapOf source.now heap.old.objects }
+    requires below { HasTicketsBelow line.old.ticket heap.old.objects }
     requires ready { IsReady line.old heap.old }
     ensures { OnOk result ((places first count : ℕ) (begun : Objects) (calls : List OneCall) → IsAfter source.now places first begun calls count line.old heap.old → slice_get calls count ≡ Some call.now → index ≡ count + 1 → IsAfter source.now places first begun calls (count + 1) line.new heap.new) }
 {
@@ -128,8 +134,10 @@ fn carry_out(
     index: u32,
     line: &mut Line,
 ) -> Result<Entry, AllocError>
-    requires start { HasStart source.now }
+    requires checked { IsChecked source.now }
     requires of_module { IsCallOf source.now call.now }
+    requires heap { IsHeapOf source.now heap.old.objects }
+    requires below { HasTicketsBelow line.old.ticket heap.old.objects }
     requires ready { IsReady line.old heap.old }
     requires need { allocs_of source.now call.now ≤ line.old.free }
     ensures entry { IfOk result (λ entry. IsEntryOf source.now heap.old.objects call.now line.old.ticket index line.old.version entry) }

@@ -1,6 +1,6 @@
 ghost use Rattle.std.specs.Prelude.{◌≡◌, ◌∷◌, [], ℤ, pos, true, IfOk};
 ghost use Rattle.dl_ir.specs.CallForms.{IsCallOf};
-ghost use Rattle.dl_ir.specs.Heap.{HasStart};
+ghost use Rattle.dl_ir.specs.Checked.{IsChecked};
 
 use crate::{Served, run_calls};
 use dl_ir::{
@@ -48,7 +48,9 @@ fn cell_and_number(alloc: Global) -> Result<Items<LocalDecl>, AllocError>
 }
 
 // `v = r.val; v = v + n; r.val = v; return v;`
-fn adds(alloc: Global) -> Result<Items<Stmt>, AllocError> {
+fn adds(alloc: Global) -> Result<Items<Stmt>, AllocError>
+    ensures { IfOk result (λ body. body ≡ Stmt.Load 2 0 0 ∷ Stmt.SetInt 2 (Expr.Bin Op.Add (Expr.Local 2) (Expr.Local 1)) ∷ Stmt.Store 0 0 (Expr.Local 2) ∷ Stmt.Return (Expr.Local 2) ∷ []) }
+{
     let sum = Expr::Bin {
         op: Op::Add,
         left: Boxed::new(alloc, Expr::Local(2))?,
@@ -68,7 +70,14 @@ fn adds(alloc: Global) -> Result<Items<Stmt>, AllocError> {
 
 // `op add(r: CELL, n: int) allocs 0 fuel 0 { var v: int; .. }`
 fn add(alloc: Global) -> Result<OpDecl, AllocError>
-    ensures { IfOk result (λ op. op.params ≡ record { name = []; ty = Ty.Of 0 } ∷ record { name = []; ty = Ty.Int } ∷ []) }
+    ensures { IfOk result (λ op. op ≡ record {
+      name = [];
+      params = record { name = []; ty = Ty.Of 0 } ∷ record { name = []; ty = Ty.Int } ∷ [];
+      vars = record { name = []; ty = Ty.Int } ∷ [];
+      allocs = 0;
+      fuel = 0;
+      body = Stmt.Load 2 0 0 ∷ Stmt.SetInt 2 (Expr.Bin Op.Add (Expr.Local 2) (Expr.Local 1)) ∷ Stmt.Store 0 0 (Expr.Local 2) ∷ Stmt.Return (Expr.Local 2) ∷ [];
+    }) }
 {
     let mut vars = Items::new(alloc);
     vars.push(LocalDecl {
@@ -86,7 +95,7 @@ fn add(alloc: Global) -> Result<OpDecl, AllocError>
 }
 
 fn counter(alloc: Global) -> Result<Module, AllocError>
-    ensures start { IfOk result HasStart }
+    ensures checked { IfOk result IsChecked }
     ensures calls { IfOk result (λ source. (n : ℤ) → IsCallOf source (record { op = 0; args = pos 0 ∷ n ∷ [] })) }
 {
     let kinds = cells(alloc)?;

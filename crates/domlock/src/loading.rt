@@ -1,6 +1,6 @@
 ghost use Rattle.std.specs.Prelude.{◌≡◌, ◌<◌, ◌≤◌, map, All, IfOk, IfErr, OnOk, length, string_bytes};
 ghost use Rattle.dl_ir.specs.CallForms.{AreCallsOf};
-ghost use Rattle.dl_ir.specs.Heap.{HasStart};
+ghost use Rattle.dl_ir.specs.Checked.{IsChecked};
 ghost use Rattle.domlock.specs.Causes.{NoModule, NoCalls, Refuses};
 ghost use Rattle.domlock.specs.Reading.{AfterReading, IsWithin};
 ghost use Rattle.domlock.specs.Texts.{IsModuleText, IsModuleFile, IsFile, AreFiles, Spells};
@@ -59,8 +59,7 @@ fn status_of_types(fault: TypeFault) -> Status
 fn parse_module(alloc: Global, text: &[u8]) -> Result<Module, Status>
     requires { length text.now ≤ 262144 }
     ensures ok { IfOk result (IsModuleText text.now) }
-    ensures start { IfOk result HasStart }
-    ensures few_ops { IfOk result (λ source. length source.ops ≤ 64) }
+    ensures checked { IfOk result IsChecked }
     ensures cause { IfErr result (ParseCause text.now) }
 {
     let tree = match read_module(alloc, text) {
@@ -134,8 +133,7 @@ fn parse_calls(alloc: Global, source: &Module, file: u32, text: &[u8]) -> Result
 // Reads the module of a command.
 fn read_source<F: Files>(alloc: Global, files: &mut F, path: &str) -> Result<Module, Status>
     ensures ok { IfOk result (IsModuleFile (F.source files.old) path.now) }
-    ensures start { IfOk result HasStart }
-    ensures few_ops { IfOk result (λ source. length source.ops ≤ 64) }
+    ensures checked { IfOk result IsChecked }
     ensures within { OnOk result (IsWithin (F.source files.new)) }
     ensures cause { IfErr result (NoModule path.now (F.source files.old) (F.source files.new)) }
     ensures after { AfterReading (F.source files.old) (F.source files.new) }
@@ -216,7 +214,7 @@ pub fn read_input<F: Files>(
 ) -> Result<Input, Status>
     requires { length command.now.rest.now ≤ 64 }
     ensures spells { IfOk result (λ input. Spells (F.source files.old) (task_of command.now) input.source input.all.items) }
-    ensures start { IfOk result (λ input. HasStart input.source) }
+    ensures checked { IfOk result (λ input. IsChecked input.source) }
     ensures calls { IfOk result (λ input. All (AreCallsOf input.source) input.all.items) }
     ensures within { OnOk result (IsWithin (F.source files.new)) }
     ensures cause { IfErr result (Refuses (task_of command.now) (F.source files.old) (F.source files.new)) }

@@ -1,6 +1,7 @@
 ghost use Rattle.std.specs.Prelude.{◌≡◌, ◌≤◌, ◌+◌, All, IfOk, length};
 ghost use Rattle.dl_ir.specs.CallForms.{AreCallsOf};
-ghost use Rattle.dl_ir.specs.Heap.{HasStart, start_objects};
+ghost use Rattle.dl_ir.specs.Checked.{IsChecked};
+ghost use Rattle.dl_ir.specs.Heap.{start_objects};
 ghost use Rattle.dl_shape.specs.Pool.{moves_of, in_rising_versions};
 ghost use Rattle.dl_shape.specs.Replay.{replayed};
 ghost use Rattle.domlock.specs.Promise.{IsRun, Prints, report_of};
@@ -27,7 +28,7 @@ pub struct Run {
 /// time at most.
 pub fn run_input(alloc: Global, input: &Input, places: u32) -> Result<Run, AllocError>
     requires places { (1 ≤ places) × (places ≤ 65536) }
-    requires start { HasStart input.now.source }
+    requires checked { IsChecked input.now.source }
     requires one { length input.now.all.items ≡ 1 }
     requires calls { All (AreCallsOf input.now.source) input.now.all.items }
     ensures run { IfOk result (λ run. IsRun input.now.source input.now.all.items places run.history.entries run.refusals) }

@@ -1,9 +1,13 @@
-use Rattle.std.proofs.Common.{◌≡◌, ◌∷◌, [], arith, length, refl, ap, subst}
+use Rattle.std.proofs.Common.{◌≡◌, ℕ, ◌+◌, ◌∷◌, [], arith, length, refl, sym, ap, subst}
 use Rattle.std.proofs.lemmas.Option.{slice_get_read}
-use Rattle.dl_shape.specs.Replay.{IsLegalFrom}
+use Rattle.dl_ir.specs.Heap.{Objects}
+use Rattle.dl_shape.specs.Replay.{IsLegalFrom, greatest_ticket}
+use Rattle.dl_meaning.specs.FirstStates.{HasTicketsBelow}
+use Rattle.dl_meaning.proofs.Left.{below_next}
 use Rattle.dl_serial.proofs.Covering.{serves_covers}
 use Rattle.dl_serial.proofs.Lawfulness.{serves_lawful}
 use Rattle.dl_serial.proofs.Laws.{serves_replayed, serves_legal}
+use Rattle.dl_serial.proofs.Modules.{serves_heap}
 use Rattle.dl_serial.proofs.Rising.{serves_rise}
 use Rattle.dl_serial.specs.Serving.{Serves, begins}
 use Rattle.dl_serial.proofs.serving.run_calls.Goals as goal
@@ -51,3 +55,22 @@ returns-clause-rising c = serves_rise _ _ _ _ _ c.loop-at.invariant.after.serves
 
 pub returns-clause-pool : goal.returns-clause-pool
 returns-clause-pool c = serves_lawful _ _ _ _ _ c.requires.hidden c.loop-at.invariant.after.serves
+
+-- the tickets of the heap are below the first
+below_first : (h : Objects) (first : ℕ) → first ≡ greatest_ticket h + 1 → HasTicketsBelow first h
+below_first h first next = subst (λ n. HasTicketsBelow n h) (sym next) (below_next h)
+
+pub returns-clause-heap : goal.returns-clause-heap
+returns-clause-heap c =
+    (serves_heap c.args.source.now c.args.places c.args.first c.args.heap.now.objects c.args.calls.now c.requires.checked c.requires.of_module.each c.requires.heap (omega (arith, c.requires.next)) (below_first _ _ c.requires.next)
+    c.loop-at.invariant.after.serves).0
+
+pub serve-requires-clause-heap : goal.serve-requires-clause-heap
+serve-requires-clause-heap c =
+    (serves_heap c.args.source.now c.args.places c.args.first c.args.heap.now.objects c.args.calls.now c.requires.checked c.requires.of_module.each c.requires.heap (omega (arith, c.requires.next)) (below_first _ _ c.requires.next)
+    c.loop-at.invariant.after.serves).0
+
+pub serve-requires-clause-below : goal.serve-requires-clause-below
+serve-requires-clause-below c = subst (λ n. HasTicketsBelow n c.loop-at.heap.objects) (sym c.loop-at.invariant.after.ticket)
+    (serves_heap c.args.source.now c.args.places c.args.first c.args.heap.now.objects c.args.calls.now c.requires.checked c.requires.of_module.each c.requires.heap (omega (arith, c.requires.next)) (below_first _ _ c.requires.next)
+    c.loop-at.invariant.after.serves).1
