@@ -60,7 +60,7 @@ pub fn run_calls(
     ensures pool { IfOk result (λ served. IsLawfulPool places source.now (calls.now ∷ []) heap.old.objects served.entries served.refusals) }
     ensures free { IfOk result (λ served. served.free + hidden_count heap.new.objects ≡ places) }
 {
-    let hidden = hidden_objects(heap);
+    let hidden = heap.hidden_len();
     let mut line = Line {
         entries: Items::new(alloc),
         refusals: Items::new(alloc),
@@ -76,16 +76,6 @@ pub fn run_calls(
         refusals: line.refusals,
         free: line.free,
     })
-}
-
-// The number of hidden objects.
-fn hidden_objects(heap: &Heap) -> usize
-    ensures { result ≡ hidden_count heap.now.objects }
-{
-    heap.entries()
-        .iter()
-        .filter(|entry| entry.0.ticket > 0)
-        .count()
 }
 
 // Carries out a call, or refuses it.

@@ -1,6 +1,4 @@
 mod Forest
 mod Looks
-mod Marking
-mod Members
 mod Order
-mod Totals
+mod Sealing
