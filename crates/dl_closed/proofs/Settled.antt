@@ -13,7 +13,8 @@ use Rattle.dl_shape.specs.Forests.{names_root}
 use Rattle.dl_shape.specs.References.{IsForest}
 use Rattle.dl_shape.specs.Settling.{is_loose, is_shared, first_name, without, trim_by, trim, sealed_entry, sealed_heap, settled, breach_of}
 use Rattle.dl_shape.proofs.Forest.{forest_stands}
-use Rattle.dl_shape.proofs.Members.{Held, In, names_total}
+use Rattle.dl_ir.proofs.Members.{Held, In}
+use Rattle.dl_ir.proofs.NameOrder.{names_total}
 use Rattle.dl_closed.proofs.Statements.{NoneSealed}
 
 one_less : (b : Bool) (old : Option Obj) (p : Obj) → cond b None old ≡ Some p → old ≡ Some p

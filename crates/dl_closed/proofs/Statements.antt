@@ -18,7 +18,7 @@ use Rattle.dl_ir.specs.declared.statements.Stmt.TheFolds.{fold-roll-Stmt, ind-St
 use Rattle.dl_ir.specs.Evaluation.{Number, Truth, number_of, target_of, value_of, holds_of}
 use Rattle.dl_ir.specs.Heap.{Objects, name_cmp, with_field_of}
 use Rattle.dl_ir.specs.Meaning.{Context, State, Outcome, Does, goes_on, ends_with, with_value, with_truth, at_object, is_sealed, unless_sealed, refers_in, field_in, set_local, set_field, take_turn, make, next_name, object_of, go_on_from, then_do, in_turn, loops, links_to, step, does, block_does}
-use Rattle.dl_shape.proofs.Members.{names_total}
+use Rattle.dl_ir.proofs.NameOrder.{names_total}
 
 -- no object of the heap is sealed
 abbrev pub NoneSealed : Objects → Type 0

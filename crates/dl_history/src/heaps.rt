@@ -112,22 +112,16 @@ fn put_object_lines<K: Sink>(
     out: &mut Out,
     sink: &mut K,
     source: &Module,
-    entries: &[(Name, Obj)],
+    heap: &Heap,
 ) -> Result<(), Failed>
     requires { out.old.failed ≡ false }
-    ensures { Puts (K.taken sink.old) out.old (flat_map (object_line source.now) entries.now) result (K.taken sink.new) out.new }
+    ensures { Puts (K.taken sink.old) out.old (flat_map (object_line source.now) (finite.entries heap.now.objects)) result (K.taken sink.new) out.new }
 {
-    'objects: for entry in entries {
-        put_object_line(out, sink, source, entry.0, &entry.1)?;
+    'objects: for at in 0..heap.len() {
+        let (name, object) = heap.entry_at(at);
+        put_object_line(out, sink, source, name, object)?;
     }
     Ok(())
-}
-
-// The number of hidden objects.
-fn count_hidden(entries: &[(Name, Obj)]) -> usize
-    ensures { result ≡ length (filter (λ (e : Name × Obj). nat_lt 0 e.0.ticket) entries.now) }
-{
-    entries.iter().filter(|entry| entry.0.ticket > 0).count()
 }
 
 fn put_heap_head<K: Sink>(
@@ -145,28 +139,6 @@ fn put_heap_head<K: Sink>(
     out.put_number(sink, hidden)
 }
 
-fn put_counts<K: Sink>(out: &mut Out, sink: &mut K, entries: &[(Name, Obj)]) -> Result<(), Failed>
-    requires { out.old.failed ≡ false }
-    ensures { Puts (K.taken sink.old) out.old (heap_head (length entries.now) (length (filter (λ (e : Name × Obj). nat_lt 0 e.0.ticket) entries.now))) result (K.taken sink.new) out.new }
-{
-    put_heap_head(out, sink, entries.len(), count_hidden(entries))
-}
-
-// Puts the numbers of objects, and a line for each.
-fn put_entries<K: Sink>(
-    out: &mut Out,
-    sink: &mut K,
-    source: &Module,
-    entries: &[(Name, Obj)],
-) -> Result<(), Failed>
-    requires { out.old.failed ≡ false }
-    ensures { Puts (K.taken sink.old) out.old (heap_head (length entries.now) (length (filter (λ (e : Name × Obj). nat_lt 0 e.0.ticket) entries.now)) ++ codes "\n" ++ flat_map (object_line source.now) entries.now) result (K.taken sink.new) out.new }
-{
-    put_counts(out, sink, entries)?;
-    out.put(sink, b"\n")?;
-    put_object_lines(out, sink, source, entries)
-}
-
 /// Puts the numbers of objects, and a line for each.
 pub fn put_heap<K: Sink>(
     out: &mut Out,
@@ -177,5 +149,7 @@ pub fn put_heap<K: Sink>(
     requires { out.old.failed ≡ false }
     ensures { Puts (K.taken sink.old) out.old (heap_part source.now heap.now.objects) result (K.taken sink.new) out.new }
 {
-    put_entries(out, sink, source, heap.entries())
+    put_heap_head(out, sink, heap.len(), heap.hidden_len())?;
+    out.put(sink, b"\n")?;
+    put_object_lines(out, sink, source, heap)
 }

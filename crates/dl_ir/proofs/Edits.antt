@@ -1,4 +1,4 @@
--- What an edit of the sorted entries does to the heap that they make.
+-- What an edit of the sorted entries does to the table that they make.
 use Rattle.std.proofs.Common.{◌≡◌, ℕ, ◌<◌, ◌≤◌, Bool, true, false, cond, not, length, set, refl, sym, ap, subst, ◌∙◌, T, Some, None, arith}
 use Rattle.std.specs.List.{insert, remove, slice_get}
 use Rattle.std.specs.Ordering.{is_eq, eq_by_cmp}
@@ -9,23 +9,22 @@ use Rattle.std.proofs.lemmas.Cmp.{alike_right, eq_by_cmp_equiv}
 use Rattle.std.proofs.lemmas.List.{length-set}
 use Rattle.std.proofs.lemmas.List.Edits.{length-insert, length-remove}
 use Rattle.dl_ir.specs.declared.names.Name.{Name}
-use Rattle.dl_ir.specs.declared.objects.Obj.{Obj}
-use Rattle.dl_ir.specs.Heap.{Objects, name_cmp}
-use Rattle.dl_ir.specs.Places.{IsAt, IsGap, IsHeap}
+use Rattle.dl_ir.specs.Heap.{name_cmp}
+use Rattle.dl_ir.specs.Places.{IsAt, IsGap, IsTable}
 use Rattle.dl_ir.proofs.NameOrder.{names_total, exact_names}
 use Rattle.dl_ir.proofs.Entries.{Held, yes, holds, insert_gap, set_at, find_at, find_gap, others, remove_at, others_gap}
 
 -- the heap that sorted entries make
-abbrev pub made : Held → Objects
+abbrev pub made : {X : Type 0} → Held X → map.FinMap name_cmp X
 made es = map.from_sorted es
 
 turned : {A : Type 0} (b : Bool) (x y : A) → cond (not b) x y ≡ cond b y x
 turned true x y = refl
 turned false x y = refl
 
-module _ (k : Name) (es : Held) (sorted : T (is_sorted name_cmp es)) where
+module _ {X : Type 0} (k : Name) (es : Held X) (sorted : T (is_sorted name_cmp es)) where
   -- an entry that is put is inserted
-  pub made-put : (v : Obj) → made (put name_cmp k v es) ≡ map.insert (made es) k v
+  pub made-put : (v : X) → made (put name_cmp k v es) ≡ map.insert (made es) k v
   made-put v = same_entries_map _ _ (
       entries-from_sorted name_cmp _ (is_sorted-put name_cmp names_total k v es sorted)
       ∙ sym (entries-insert names_total (made es) k v ∙ ap (put name_cmp k v) (entries-from_sorted name_cmp es sorted)))
@@ -39,33 +38,33 @@ module _ (k : Name) (es : Held) (sorted : T (is_sorted name_cmp es)) where
       ∙ ap (λ b. cond b None (find name_cmp q es)) ((eq_by_cmp_equiv names_total).symm k q)
       ∙ sym (get-remove names_total (made es) k q ∙ ap (cond (eq_by_cmp name_cmp q k) None) (get-from_sorted name_cmp es q sorted)))
 
-module _ (k : Name) (es : Held) (room capacity at : ℕ) (heap : IsHeap es room capacity) where
+module _ {X : Type 0} (k : Name) (es : Held X) (room capacity at : ℕ) (table : IsTable es room capacity) where
   sorted : T (is_sorted name_cmp es)
-  sorted = holds _ heap.sorted
+  sorted = holds _ table.sorted
 
   module _ (is_at : IsAt k es at) where
     pub at_within : at < length es
     at_within = (find_at k es at is_at).4
 
     -- the entry at the place is what the heap has
-    pub got : (e : Name × Obj) × (slice_get es at ≡ Some e) × (e.0 ≡ k) × (Some e.1 ≡ map.get (made es) k)
+    pub got : (e : Name × X) × (slice_get es at ≡ Some e) × (e.0 ≡ k) × (Some e.1 ≡ map.get (made es) k)
     got = let found = find_at k es at is_at in (found.0, found.1, found.2, sym (get-from_sorted name_cmp es k sorted ∙ found.3))
 
-    pub heap-set : (v : Obj) → IsHeap (set es at (k, v)) room capacity
-    heap-set v = record {
+    pub table-set : (v : X) → IsTable (set es at (k, v)) room capacity
+    table-set v = record {
       sorted = ap (is_sorted name_cmp) (set_at k v es at is_at) ∙ yes _ (is_sorted-put name_cmp names_total k v es sorted);
-      within = subst (λ n. n ≤ room) (sym (length-set es at (k, v))) heap.within;
-      reserved = heap.reserved;
+      within = subst (λ n. n ≤ room) (sym (length-set es at (k, v))) table.within;
+      reserved = table.reserved;
     }
 
-    pub made-set : (v : Obj) → made (set es at (k, v)) ≡ map.insert (made es) k v
+    pub made-set : (v : X) → made (set es at (k, v)) ≡ map.insert (made es) k v
     made-set v = ap made (set_at k v es at is_at) ∙ made-put k es sorted v
 
-    pub heap-remove : IsHeap (remove es at) room capacity
-    heap-remove = record {
+    pub table-remove : IsTable (remove es at) room capacity
+    table-remove = record {
       sorted = ap (is_sorted name_cmp) (remove_at k es at sorted is_at) ∙ yes _ (is_sorted-where_key name_cmp _ es sorted);
-      within = omega (arith, length-remove es at at_within, heap.within);
-      reserved = heap.reserved;
+      within = omega (arith, length-remove es at at_within, table.within);
+      reserved = table.reserved;
     }
 
     pub made-remove : made (remove es at) ≡ map.remove (made es) k
@@ -78,14 +77,14 @@ module _ (k : Name) (es : Held) (room capacity at : ℕ) (heap : IsHeap es room 
     pub got_none : None ≡ map.get (made es) k
     got_none = sym (get-from_sorted name_cmp es k sorted ∙ (find_gap k es at sorted is_gap).0)
 
-    pub heap-insert : (v : Obj) (larger : ℕ) → length es < room → capacity ≤ larger → IsHeap (insert es at (k, v)) room larger
-    heap-insert v larger less rises = record {
+    pub table-insert : (v : X) (larger : ℕ) → length es < room → capacity ≤ larger → IsTable (insert es at (k, v)) room larger
+    table-insert v larger less rises = record {
       sorted = ap (is_sorted name_cmp) (insert_gap k v es at is_gap) ∙ yes _ (is_sorted-put name_cmp names_total k v es sorted);
       within = omega (arith, length-insert es at (k, v) gap_within);
-      reserved = omega (arith, heap.reserved);
+      reserved = omega (arith, table.reserved);
     }
 
-    pub made-insert : (v : Obj) → made (insert es at (k, v)) ≡ map.insert (made es) k v
+    pub made-insert : (v : X) → made (insert es at (k, v)) ≡ map.insert (made es) k v
     made-insert v = ap made (insert_gap k v es at is_gap) ∙ made-put k es sorted v
 
     -- nothing is there to be removed

@@ -7,13 +7,12 @@ use Rattle.std.specs.declared.cmp.Ordering.TheVariants.{Less, Equal, Greater}
 use Rattle.std.specs.FinMap.{find, put, is_sorted}
 use Rattle.std.specs.FinMap.Entries.{by_order, where_key, below_all}
 use Rattle.dl_ir.specs.declared.names.Name.{Name}
-use Rattle.dl_ir.specs.declared.objects.Obj.{Obj}
 use Rattle.dl_ir.specs.Heap.{name_cmp}
 use Rattle.dl_ir.specs.Places.{IsAt, IsGap}
 use Rattle.dl_ir.proofs.NameOrder.{names_total, exact_names, less_turned, greater_turned, equal_turned}
 
-abbrev pub Held : Type 0
-Held = List (Name × Obj)
+abbrev pub Held : Type 0 → Type 0
+Held X = List (Name × X)
 
 pub yes : (b : Bool) → T b → b ≡ true
 yes true h = refl
@@ -36,87 +35,87 @@ is_less Equal h = absurd h
 is_less Greater h = absurd h
 
 -- an entry that comes in the gap is put
-pub insert_gap : (k : Name) (v : Obj) (es : Held) (at : ℕ) → IsGap k es at → insert es at (k, v) ≡ put name_cmp k v es
-insert_gap k v [] zero h = refl
-insert_gap k v [] (suc at) h = absurd h
-insert_gap k v (e ∷ es) zero h = ap (λ r. by_order r ((k, v) ∷ e ∷ es) ((e.0, v) ∷ es) (e ∷ put name_cmp k v es)) (sym (greater_turned e.0 k h))
-insert_gap k v (e ∷ es) (suc at) h =
-    ap (λ (l : Held). e ∷ l) (insert_gap k v es at h.1)
+pub insert_gap : {X : Type 0} → (k : Name) (v : X) (es : Held X) (at : ℕ) → IsGap k es at → insert es at (k, v) ≡ put name_cmp k v es
+insert_gap {X} k v [] zero h = refl
+insert_gap {X} k v [] (suc at) h = absurd h
+insert_gap {X} k v (e ∷ es) zero h = ap (λ r. by_order r ((k, v) ∷ e ∷ es) ((e.0, v) ∷ es) (e ∷ put name_cmp k v es)) (sym (greater_turned e.0 k h))
+insert_gap {X} k v (e ∷ es) (suc at) h =
+    ap (λ (l : Held X). e ∷ l) (insert_gap k v es at h.1)
     ∙ ap (λ r. by_order r ((k, v) ∷ e ∷ es) ((e.0, v) ∷ es) (e ∷ put name_cmp k v es)) (sym (less_turned e.0 k h.0))
 
 -- an entry that is written over is put
-pub set_at : (k : Name) (v : Obj) (es : Held) (at : ℕ) → IsAt k es at → set es at (k, v) ≡ put name_cmp k v es
-set_at k v [] at h = absurd h
-set_at k v (e ∷ es) zero h =
+pub set_at : {X : Type 0} → (k : Name) (v : X) (es : Held X) (at : ℕ) → IsAt k es at → set es at (k, v) ≡ put name_cmp k v es
+set_at {X} k v [] at h = absurd h
+set_at {X} k v (e ∷ es) zero h =
     ap (λ (n : Name). (n, v) ∷ es) (sym (exact_names e.0 k h))
     ∙ ap (λ r. by_order r ((k, v) ∷ e ∷ es) ((e.0, v) ∷ es) (e ∷ put name_cmp k v es)) (sym (equal_turned e.0 k h))
-set_at k v (e ∷ es) (suc at) h =
-    ap (λ (l : Held). e ∷ l) (set_at k v es at h.1)
+set_at {X} k v (e ∷ es) (suc at) h =
+    ap (λ (l : Held X). e ∷ l) (set_at k v es at h.1)
     ∙ ap (λ r. by_order r ((k, v) ∷ e ∷ es) ((e.0, v) ∷ es) (e ∷ put name_cmp k v es)) (sym (less_turned e.0 k h.0))
 
 -- what is at the place is found
-pub find_at : (k : Name) (es : Held) (at : ℕ) → IsAt k es at → (e : Name × Obj) × (slice_get es at ≡ Some e) × (e.0 ≡ k) × (find name_cmp k es ≡ Some e.1) × (at < length es)
-find_at k [] at h = absurd h
-find_at k (e ∷ es) zero h = (e, refl, exact_names e.0 k h, ap (λ r. cond (is_eq r) (Some e.1) (find name_cmp k es)) (equal_turned e.0 k h), omega arith)
-find_at k (e ∷ es) (suc at) h =
+pub find_at : {X : Type 0} → (k : Name) (es : Held X) (at : ℕ) → IsAt k es at → (e : Name × X) × (slice_get es at ≡ Some e) × (e.0 ≡ k) × (find name_cmp k es ≡ Some e.1) × (at < length es)
+find_at {X} k [] at h = absurd h
+find_at {X} k (e ∷ es) zero h = (e, refl, exact_names e.0 k h, ap (λ r. cond (is_eq r) (Some e.1) (find name_cmp k es)) (equal_turned e.0 k h), omega arith)
+find_at {X} k (e ∷ es) (suc at) h =
     let rest = find_at k es at h.1 in
     (rest.0, rest.1, rest.2, ap (λ r. cond (is_eq r) (Some e.1) (find name_cmp k es)) (less_turned e.0 k h.0) ∙ rest.3, omega (arith, rest.4))
 
 -- what is below each name is not found
-find_below : (k x : Name) (es : Held) → name_cmp k x ≡ Less → T (below_all name_cmp x es) → find name_cmp k es ≡ None
-find_below k x [] less below = refl
-find_below k x (e ∷ es) less below =
+find_below : {X : Type 0} → (k x : Name) (es : Held X) → name_cmp k x ≡ Less → T (below_all name_cmp x es) → find name_cmp k es ≡ None
+find_below {X} k x [] less below = refl
+find_below {X} k x (e ∷ es) less below =
     ap (λ r. cond (is_eq r) (Some e.1) (find name_cmp k es)) (names_total.trans k x e.0 less (is_less _ (first_of_both _ _ below)))
     ∙ find_below k x es less (second_of_both _ _ below)
 
 -- what has a gap is not found
-pub find_gap : (k : Name) (es : Held) (at : ℕ) → T (is_sorted name_cmp es) → IsGap k es at → (find name_cmp k es ≡ None) × (at ≤ length es)
-find_gap k [] zero sorted h = (refl, omega arith)
-find_gap k [] (suc at) sorted h = absurd h
-find_gap k (e ∷ es) zero sorted h =
+pub find_gap : {X : Type 0} → (k : Name) (es : Held X) (at : ℕ) → T (is_sorted name_cmp es) → IsGap k es at → (find name_cmp k es ≡ None) × (at ≤ length es)
+find_gap {X} k [] zero sorted h = (refl, omega arith)
+find_gap {X} k [] (suc at) sorted h = absurd h
+find_gap {X} k (e ∷ es) zero sorted h =
     let less = greater_turned e.0 k h in
     (ap (λ r. cond (is_eq r) (Some e.1) (find name_cmp k es)) less ∙ find_below k e.0 es less (first_of_both _ _ sorted), omega arith)
-find_gap k (e ∷ es) (suc at) sorted h =
+find_gap {X} k (e ∷ es) (suc at) sorted h =
     let rest = find_gap k es at (second_of_both _ _ sorted) h.1 in
     (ap (λ r. cond (is_eq r) (Some e.1) (find name_cmp k es)) (less_turned e.0 k h.0) ∙ rest.0, omega (arith, rest.1))
 
 -- the entries but the one with the name
-abbrev pub others : Name → Held → Held
-others k es = where_key name_cmp (λ n. not (eq_by_cmp name_cmp k n)) es
+abbrev pub others : {X : Type 0} → Name → Held X → Held X
+others {X} k es = where_key name_cmp (λ n. not (eq_by_cmp name_cmp k n)) es
 
 -- nothing is left out where each name is greater
-others_above : (k x : Name) (es : Held) → name_cmp k x ≡ Less → T (below_all name_cmp x es) → es ≡ others k es
-others_above k x [] less below = refl
-others_above k x (e ∷ es) less below =
-    ap (λ (l : Held). e ∷ l) (others_above k x es less (second_of_both _ _ below))
+others_above : {X : Type 0} → (k x : Name) (es : Held X) → name_cmp k x ≡ Less → T (below_all name_cmp x es) → es ≡ others k es
+others_above {X} k x [] less below = refl
+others_above {X} k x (e ∷ es) less below =
+    ap (λ (l : Held X). e ∷ l) (others_above k x es less (second_of_both _ _ below))
     ∙ ap (λ r. cond (not (is_eq r)) (e ∷ others k es) (others k es)) (sym (names_total.trans k x e.0 less (is_less _ (first_of_both _ _ below))))
 
 -- nor where each name is greater than one that ties
-others_tied : (k x : Name) (es : Held) → name_cmp k x ≡ Equal → T (below_all name_cmp x es) → es ≡ others k es
-others_tied k x [] tied below = refl
-others_tied k x (e ∷ es) tied below =
-    ap (λ (l : Held). e ∷ l) (others_tied k x es tied (second_of_both _ _ below))
+others_tied : {X : Type 0} → (k x : Name) (es : Held X) → name_cmp k x ≡ Equal → T (below_all name_cmp x es) → es ≡ others k es
+others_tied {X} k x [] tied below = refl
+others_tied {X} k x (e ∷ es) tied below =
+    ap (λ (l : Held X). e ∷ l) (others_tied k x es tied (second_of_both _ _ below))
     ∙ ap (λ r. cond (not (is_eq r)) (e ∷ others k es) (others k es)) (sym (names_total.congr k x e.0 tied ∙ is_less _ (first_of_both _ _ below)))
 
 -- to remove the entry at its place leaves the others
-pub remove_at : (k : Name) (es : Held) (at : ℕ) → T (is_sorted name_cmp es) → IsAt k es at → remove es at ≡ others k es
-remove_at k [] at sorted h = absurd h
-remove_at k (e ∷ es) zero sorted h =
+pub remove_at : {X : Type 0} → (k : Name) (es : Held X) (at : ℕ) → T (is_sorted name_cmp es) → IsAt k es at → remove es at ≡ others k es
+remove_at {X} k [] at sorted h = absurd h
+remove_at {X} k (e ∷ es) zero sorted h =
     let tied = equal_turned e.0 k h in
     others_tied k e.0 es tied (first_of_both _ _ sorted)
     ∙ ap (λ r. cond (not (is_eq r)) (e ∷ others k es) (others k es)) (sym tied)
-remove_at k (e ∷ es) (suc at) sorted h =
-    ap (λ (l : Held). e ∷ l) (remove_at k es at (second_of_both _ _ sorted) h.1)
+remove_at {X} k (e ∷ es) (suc at) sorted h =
+    ap (λ (l : Held X). e ∷ l) (remove_at k es at (second_of_both _ _ sorted) h.1)
     ∙ ap (λ r. cond (not (is_eq r)) (e ∷ others k es) (others k es)) (sym (less_turned e.0 k h.0))
 
 -- and nothing is removed where there is a gap
-pub others_gap : (k : Name) (es : Held) (at : ℕ) → T (is_sorted name_cmp es) → IsGap k es at → es ≡ others k es
-others_gap k [] zero sorted h = refl
-others_gap k [] (suc at) sorted h = absurd h
-others_gap k (e ∷ es) zero sorted h =
+pub others_gap : {X : Type 0} → (k : Name) (es : Held X) (at : ℕ) → T (is_sorted name_cmp es) → IsGap k es at → es ≡ others k es
+others_gap {X} k [] zero sorted h = refl
+others_gap {X} k [] (suc at) sorted h = absurd h
+others_gap {X} k (e ∷ es) zero sorted h =
     let less = greater_turned e.0 k h in
-    ap (λ (l : Held). e ∷ l) (others_above k e.0 es less (first_of_both _ _ sorted))
+    ap (λ (l : Held X). e ∷ l) (others_above k e.0 es less (first_of_both _ _ sorted))
     ∙ ap (λ r. cond (not (is_eq r)) (e ∷ others k es) (others k es)) (sym less)
-others_gap k (e ∷ es) (suc at) sorted h =
-    ap (λ (l : Held). e ∷ l) (others_gap k es at (second_of_both _ _ sorted) h.1)
+others_gap {X} k (e ∷ es) (suc at) sorted h =
+    ap (λ (l : Held X). e ∷ l) (others_gap k es at (second_of_both _ _ sorted) h.1)
     ∙ ap (λ r. cond (not (is_eq r)) (e ∷ others k es) (others k es)) (sym (less_turned e.0 k h.0))

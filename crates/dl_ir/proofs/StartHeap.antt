@@ -28,7 +28,7 @@ record IsAmong (name : Name) (first count : ℕ) : Type 0 where
   to_last : name.index < first + count
 
 -- what is found is one of these roots, or behind them
-found_among : (name : Name) (first count : ℕ) (o : Obj) (rest : Held) (p : Obj) → find name_cmp name (roots_from first count o ++ rest) ≡ Some p
+found_among : (name : Name) (first count : ℕ) (o : Obj) (rest : Held Obj) (p : Obj) → find name_cmp name (roots_from first count o ++ rest) ≡ Some p
     → (IsAmong name first count × (p ≡ o)) ⊎ (find name_cmp name rest ≡ Some p)
 found_among name first zero o rest p is = inr is
 found_among name first (suc count) o rest p is =
@@ -63,7 +63,7 @@ row_at next (e ∷ kinds) (suc i) d row is =
     let rest = row_at (next + e.count) kinds i d row.1 is in (rest.0, omega (arith, rest.1), rest.2)
 
 -- one of these roots is found
-find_among : (index first count : ℕ) (o : Obj) (rest : Held) → first ≤ index → index < first + count → find name_cmp (root index) (roots_from first count o ++ rest) ≡ Some o
+find_among : (index first count : ℕ) (o : Obj) (rest : Held Obj) → first ≤ index → index < first + count → find name_cmp (root index) (roots_from first count o ++ rest) ≡ Some o
 find_among index first zero o rest low high = absurd (omega arith)
 find_among index first (suc count) o rest low high =
     let others = roots_from (first + 1) count o ++ rest in
@@ -76,7 +76,7 @@ find_among index first (suc count) o rest low high =
     ]
 
 -- and behind them one that comes later
-find_behind : (index first count : ℕ) (o : Obj) (rest : Held) → first + count ≤ index → find name_cmp (root index) (roots_from first count o ++ rest) ≡ find name_cmp (root index) rest
+find_behind : (index first count : ℕ) (o : Obj) (rest : Held Obj) → first + count ≤ index → find name_cmp (root index) (roots_from first count o ++ rest) ≡ find name_cmp (root index) rest
 find_behind index first zero o rest past = refl
 find_behind index first (suc count) o rest past =
     ap (λ r. cond (is_eq r) (Some o) (find name_cmp (root index) (roots_from (first + 1) count o ++ rest))) (less_turned (root first) (root index) (below_root first index (omega arith)))

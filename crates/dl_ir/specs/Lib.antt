@@ -1,12 +1,14 @@
 pub mod CallForms
+pub mod Census
 pub mod Checked
 pub mod Codes
 pub mod Cover
 pub mod Evaluation
 pub mod Heap
-pub mod Marks
 pub mod Meaning
 pub mod Places
+pub mod References
 pub mod Relation
+pub mod Rows
 pub mod Typed
 pub mod Values

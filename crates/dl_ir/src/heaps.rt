@@ -1,41 +1,47 @@
-ghost use Rattle.std.specs.Prelude.{◌≡◌, true, [], ◌∷◌, ◌++◌, ◌+◌, ◌^◌, ◌<◌, ◌≤◌, ◌↔◌, IsTrue, IfOk, IfErr, OnOk, length, slice_get, slice_set, vec_capacity};
+ghost use Rattle.std.specs.Prelude.{◌≡◌, ℕ, [], ◌∷◌, ◌+◌, ◌^◌, ◌<◌, ◌≤◌, ◌↔◌, IsTrue, IfOk, OnOk, Some, length, slice_get, count_by, option_and_then, None, if◌then◌else◌};
 ghost use Rattle.std.specs.Option.{option_copied};
 ghost use Rattle.std.specs.List.{AllByRecursion};
 ghost use Rattle.std.specs.FinMap as map;
-ghost use Rattle.dl_ir.specs.Heap.{name_cmp, with_field, blank_object, roots_from, roots_of, start_objects, StandInRow, HasStart, IsHeapOf};
-ghost use Rattle.dl_ir.specs.Marks.{seal_marked, seal_each, sealed_if};
-ghost use Rattle.dl_ir.specs.Places.{IsAt, IsGap};
+ghost use Rattle.dl_ir.specs.Heap.{Objects, hidden_count, with_field, blank_object, roots_from, roots_of, start_objects, StandInRow, HasStart, IsHeapOf};
+ghost use Rattle.dl_ir.specs.Census.{HasFewFields};
+ghost use Rattle.dl_ir.specs.References.{refs, refers_to, is_loose, is_shared, first_name, with_seal};
+ghost use Rattle.dl_ir.specs.Rows.{added};
 ghost use Rattle.dl_ir.specs.declared.modules.KindDecl.{KindDecl};
 ghost use Rattle.dl_ir.specs.declared.names.Name.{Name};
 ghost use Rattle.dl_ir.specs.declared.objects.Obj.{Obj};
 
+use crate::census::Census;
 use crate::modules::{KindDecl, Module};
 use crate::names::{Name, Value};
 use crate::objects::Obj;
+use crate::tables::Table;
 use std::alloc::{AllocError, Global};
 use std::marker::Model;
 
-/// Objects under their names, with memory for a number of objects that is chosen when it is made.
+// No machine has memory for more objects, and so many have fewer fields than a count can hold.
+const MOST_OBJECTS: usize = 1 << 48;
+
+/// Objects under their names, with memory for a number of objects that is chosen when it is made. Beside each object
+/// it keeps how many fields refer to it, so that what an operation leaves to be removed or sealed is at hand.
 #[derive(Drop)]
 pub struct Heap {
-    entries: Vec<(Name, Obj)>,
-    room: usize,
+    census: Census,
+    may_dangle: bool,
 }
 
 impl Model for Heap {
-    ghost use Rattle.std.specs.FinMap as map;
-    ghost use Rattle.std.specs.Prelude.{vec_capacity};
     ghost use Rattle.dl_ir.specs.Heap.{View};
     ghost use Rattle.dl_ir.specs.Codes.{coded_view};
-    ghost use Rattle.dl_ir.specs.Places.{IsHeap};
 
     ghost Value = { View };
 
     ghost coded = { coded_view };
 
-    ghost view = { λ h. record { objects = map.from_sorted h.entries.items; room = h.room } };
+    ghost use Rattle.dl_ir.specs.Census.{IsKept};
 
-    ghost invariant = { λ h. IsHeap h.entries.items h.room (vec_capacity h.entries) };
+    ghost view = { λ h. record { objects = h.census.objects.rows; room = h.census.objects.room } };
+
+    ghost invariant = { λ h. IsKept h.census h.may_dangle };
 }
 
 impl Heap {
@@ -43,9 +49,12 @@ impl Heap {
     pub fn new(alloc: Global, room: usize) -> Result<Heap, AllocError>
         ensures { IfOk result (λ h. h ≡ record { objects = map.empty; room = room }) }
     {
+        if room > MOST_OBJECTS {
+            return Err(AllocError);
+        }
         Ok(Heap {
-            entries: Vec::with_capacity(alloc, room)?,
-            room,
+            census: Census::new(alloc, room)?,
+            may_dangle: false,
         })
     }
 
@@ -55,20 +64,34 @@ impl Heap {
         ensures start { IfOk result (λ h. h ≡ record { objects = start_objects declared.now; room = map.len (start_objects declared.now) + places }) }
         ensures of_module { IfOk result (λ h. IsHeapOf declared.now h.objects) }
     {
-        let mut entries = Vec::new(alloc);
-        add_roots(declared.kinds.as_slice(), &mut entries)?;
-        entries.reserve(places as usize)?;
-        let room = entries.len() + places as usize;
-        Ok(Heap { entries, room })
+        let roots = root_count(declared.kinds.as_slice());
+        let mut heap = Heap::new(alloc, roots + places as usize)?;
+        add_roots(declared.kinds.as_slice(), &mut heap);
+        Ok(heap)
     }
 
     /// The object with this name, if there is one.
     pub fn get(&self, name: Name) -> Option<&Obj>
         ensures { option_copied result ≡ map.get self.now.objects name }
     {
-        match place(&self.entries, name) {
-            Ok(at) => Some(&self.entries[at].1),
-            Err(_) => None,
+        self.census.objects.get(name)
+    }
+
+    /// The number of fields that refer to the object of this name. It is looked up, and counted only where there is
+    /// no such object and some field may refer to an object that is not there.
+    pub fn refs(&self, name: Name) -> u64
+        ensures count { result ≡ refs self.now.objects name }
+        ensures small { result ≤ 2 ^ 52 }
+    {
+        match self.census.counts.get(name) {
+            Some(count) => *count,
+            None => {
+                if self.may_dangle {
+                    fields_that_refer(&self.census.objects, name)
+                } else {
+                    0
+                }
+            }
         }
     }
 
@@ -76,8 +99,11 @@ impl Heap {
     pub fn set_field(&mut self, name: Name, field: usize, value: Value)
         ensures { self.new ≡ record self.old { objects = with_field self.old.objects name field value } }
     {
-        if let Ok(at) = place(&self.entries, name) {
-            set_at(&mut self.entries, at, field, value);
+        if let Some(before) = field_of(&self.census.objects, name, field) {
+            self.census.objects.set_field(name, field, value);
+            self.census.lose(before);
+            let there = self.census.gain(value);
+            self.may_dangle |= !there;
         }
     }
 
@@ -86,129 +112,202 @@ impl Heap {
         requires { map.len self.old.objects < self.old.room }
         ensures { self.new ≡ record self.old { objects = map.insert self.old.objects name object } }
     {
-        match place(&self.entries, name) {
-            Ok(at) => self.entries[at] = (name, object),
-            Err(at) => match self.entries.insert(at, (name, object)) {
-                Ok(()) => {}
-                Err(_) => unreachable!(),
-            },
-        }
+        self.remove(name);
+        self.enter(name, object);
+    }
+
+    // Puts an object under a name that no object has.
+    fn enter(&mut self, name: Name, object: Obj)
+        requires absent { map.get self.old.objects name ≡ None }
+        requires room { map.len self.old.objects < self.old.room }
+        ensures { self.new ≡ record self.old { objects = map.insert self.old.objects name object } }
+    {
+        let refs = self.refs(name);
+        let there = self.census.gain_all(object.fields.as_slice());
+        let own = count_in(object.fields.as_slice(), name);
+        self.census.objects.put(name, object);
+        self.census.file(name, refs + own);
+        self.may_dangle |= !there;
     }
 
     /// Removes the object with this name, if there is one.
     pub fn remove(&mut self, name: Name)
         ensures { self.new ≡ record self.old { objects = map.remove self.old.objects name } }
     {
-        if let Ok(at) = place(&self.entries, name) {
-            self.entries.remove(at);
+        let refs = self.refs(name);
+        if let Some(object) = self.census.take(name) {
+            self.census.lose_all(object.fields.as_slice());
+            self.may_dangle |= refs > 0;
         }
     }
 
-    /// The names with their objects, in the order of names.
-    pub fn entries(&self) -> &[(Name, Obj)]
-        ensures { result.now ≡ map.entries self.now.objects }
+    /// Seals the object with this name, if there is one.
+    pub fn seal(&mut self, name: Name)
+        ensures { self.new ≡ record self.old { objects = with_seal self.old.objects name } }
     {
-        &self.entries
+        if let Some(count) = count_of(&self.census.counts, name) {
+            self.census.objects.seal(name);
+            self.census.file(name, count);
+        }
+    }
+
+    /// The least name of a hidden unsealed object to which no field refers, if there is one.
+    pub fn first_loose(&self) -> Option<Name>
+        ensures { result ≡ first_name (is_loose self.now.objects) self.now.objects }
+    {
+        self.census.loose.first_name()
+    }
+
+    /// The least name of a hidden unsealed object to which two fields or more refer, if there is one.
+    pub fn first_shared(&self) -> Option<Name>
+        ensures { result ≡ first_name (is_shared self.now.objects) self.now.objects }
+    {
+        self.census.shared.first_name()
+    }
+
+    /// The name at a place in the order of names, with its object.
+    pub fn entry_at(&self, at: usize) -> (Name, &Obj)
+        requires { at < map.len self.now.objects }
+        ensures { slice_get (map.entries self.now.objects) at ≡ Some (result.0, result.1.now) }
+    {
+        self.census.objects.entry_at(at)
     }
 
     /// The number of objects.
     pub fn len(&self) -> usize
         ensures { result ≡ map.len self.now.objects }
     {
-        self.entries.len()
+        self.census.objects.len()
+    }
+
+    /// The number of hidden objects. It looks at each name.
+    pub fn hidden_len(&self) -> usize
+        ensures { result ≡ hidden_count self.now.objects }
+    {
+        let mut hidden = 0;
+        for at in 0..self.len() {
+            let (name, _) = self.entry_at(at);
+            hidden += one_if(name.ticket > 0);
+        }
+        hidden
     }
 
     pub fn is_empty(&self) -> bool
         ensures { IsTrue result ↔ (map.len self.now.objects ≡ 0) }
     {
-        self.entries.is_empty()
+        self.len() == 0
     }
 
     /// Whether there is no memory for another object.
     pub fn is_full(&self) -> bool
         ensures { IsTrue result ↔ (self.now.room ≤ map.len self.now.objects) }
     {
-        self.room <= self.entries.len()
-    }
-
-    /// Seals the objects that are marked, with one mark for each object, in the order of names.
-    pub fn seal_marked(&mut self, marks: &[bool])
-        requires { length marks.now ≡ map.len self.old.objects }
-        ensures { self.new ≡ record self.old { objects = seal_marked self.old.objects marks.now } }
-    {
-        seal_each_marked(&mut self.entries, marks);
+        self.census.objects.is_full()
     }
 }
 
-// Where the name is among sorted entries, or where it would stand.
-fn place(entries: &[(Name, Obj)], name: Name) -> Result<usize, usize>
-    requires { map.is_sorted name_cmp entries.now ≡ true }
-    ensures found { IfOk result (IsAt name entries.now) }
-    ensures absent { IfErr result (IsGap name entries.now) }
+fn one_if(holds: bool) -> usize
+    ensures { result ≡ (if holds then 1 else 0) }
 {
-    entries.binary_search_by_key(&name, |(held, _)| *held)
+    if holds { 1 } else { 0 }
 }
 
-// Writes a field of the object at a place.
-fn set_at(entries: &mut Vec<(Name, Obj)>, at: usize, field: usize, value: Value)
-    requires { at < length entries.old.items }
-    ensures field { (e : Name × Obj) → slice_get entries.old.items at ≡ Some e → entries.new.items ≡ slice_set entries.old.items at (e.0, record e.1 { fields = slice_set e.1.fields field value }) }
-    ensures capacity { vec_capacity entries.new ≡ vec_capacity entries.old }
+// The count of a name, if it has one.
+fn count_of(counts: &Table<u64>, name: Name) -> Option<u64>
+    ensures { result ≡ map.get counts.now.rows name }
 {
-    entries[at].1.fields.set(field, value);
-}
-
-// Seals the objects that are marked, the first mark being that of the first entry.
-fn seal_each_marked(entries: &mut Vec<(Name, Obj)>, marks: &[bool])
-    requires { length marks.now ≡ length entries.old.items }
-    ensures items { entries.new.items ≡ seal_each entries.old.items marks.now }
-    ensures capacity { vec_capacity entries.new ≡ vec_capacity entries.old }
-{
-    for (at, mark) in marks.iter().enumerate() {
-        seal_at(entries, at, *mark);
+    match counts.get(name) {
+        Some(count) => Some(*count),
+        None => None,
     }
 }
 
-// Seals the object at a place if it is marked.
-fn seal_at(entries: &mut Vec<(Name, Obj)>, at: usize, mark: bool)
-    requires { at < length entries.old.items }
-    ensures sealed { (e : Name × Obj) → slice_get entries.old.items at ≡ Some e → entries.new.items ≡ slice_set entries.old.items at (e.0, sealed_if mark e.1) }
-    ensures capacity { vec_capacity entries.new ≡ vec_capacity entries.old }
+// The value of a field of the object of this name, if there are both.
+fn field_of(objects: &Table<Obj>, name: Name, field: usize) -> Option<Value>
+    ensures { result ≡ option_and_then (λ (object : Obj). slice_get object.fields field) (map.get objects.now.rows name) }
 {
-    entries[at].1.sealed |= mark;
+    match objects.get(name) {
+        Some(object) => object.fields.get(field),
+        None => None,
+    }
+}
+
+// The number of fields that refer to this name, counted.
+fn fields_that_refer(objects: &Table<Obj>, name: Name) -> u64
+    requires fields { HasFewFields objects.now.rows }
+    requires few { map.len objects.now.rows ≤ 2 ^ 48 }
+    ensures { result ≡ refs objects.now.rows name }
+{
+    let mut count = 0;
+    for at in 0..objects.len() {
+        let (_, object) = objects.entry_at(at);
+        count += count_in(object.fields.as_slice(), name);
+    }
+    count
+}
+
+// The number of these fields that refer to this name.
+fn count_in(fields: &[Value], name: Name) -> u64
+    requires { length fields.now ≤ 16 }
+    ensures { result ≡ count_by (refers_to name) fields.now }
+{
+    let mut count = 0;
+    for value in fields {
+        if refers_to(*value, name) {
+            count += 1;
+        }
+    }
+    count
+}
+
+fn refers_to(value: Value, name: Name) -> bool
+    ensures { result ≡ refers_to name value }
+{
+    match value {
+        Value::Ref(Some(target)) => name.ticket == target.ticket && name.index == target.index,
+        _ => false,
+    }
+}
+
+// The number of roots of these kinds.
+fn root_count(kinds: &[KindDecl]) -> usize
+    requires { StandInRow 0 kinds.now }
+    ensures { result ≡ length (roots_of 0 kinds.now) }
+{
+    let mut count = 0;
+    for declared in kinds {
+        count += declared.count as usize;
+    }
+    count
 }
 
 // Adds the roots of the kinds, in order.
-fn add_roots(kinds: &[KindDecl], entries: &mut Vec<(Name, Obj)>) -> Result<(), AllocError>
+fn add_roots(kinds: &[KindDecl], heap: &mut Heap)
     requires few_kinds { length kinds.now ≤ 16 }
     requires few_fields { AllByRecursion (λ (k : KindDecl). length k.fields ≤ 16) kinds.now }
     requires row { StandInRow 0 kinds.now }
-    ensures { OnOk result (entries.new.items ≡ entries.old.items ++ roots_of 0 kinds.now) }
+    requires room { map.len heap.old.objects + length (roots_of 0 kinds.now) ≤ heap.old.room }
+    ensures { heap.new ≡ record heap.old { objects = added heap.old.objects (roots_of 0 kinds.now) } }
 {
     for (kind, declared) in kinds.iter().enumerate() {
-        add_roots_of(kind as u32, declared, entries)?;
+        add_roots_of(kind as u32, declared, heap);
     }
-    Ok(())
 }
 
 // Adds the roots of a kind.
-fn add_roots_of(
-    kind: u32,
-    declared: &KindDecl,
-    entries: &mut Vec<(Name, Obj)>,
-) -> Result<(), AllocError>
+fn add_roots_of(kind: u32, declared: &KindDecl, heap: &mut Heap)
     requires few_fields { length declared.now.fields ≤ 16 }
     requires numbers { declared.now.first + declared.now.count < 2 ^ 32 }
-    ensures { OnOk result (entries.new.items ≡ entries.old.items ++ roots_from declared.now.first declared.now.count (blank_object kind declared.now)) }
+    requires room { map.len heap.old.objects + declared.now.count ≤ heap.old.room }
+    ensures { heap.new ≡ record heap.old { objects = added heap.old.objects (roots_from declared.now.first declared.now.count (blank_object kind declared.now)) } }
 {
     for i in 0..declared.count {
         let name = Name {
             ticket: 0,
             index: declared.first + i,
         };
-        entries.push((name, Obj::blank(kind, declared)))?;
+        heap.put(name, Obj::blank(kind, declared));
     }
-    Ok(())
 }
 
 #[cfg(test)]
@@ -248,17 +347,15 @@ mod tests {
         };
         heap.set_field(second, 0, Value::Ref(Some(first)));
         assert!(rt; heap.is_full());
-        let names: Vec<Name> = heap
-            .entries()
-            .iter()
-            .map(|(name, _)| *name)
-            .collect(rt.alloc())?;
-        assert_eq!(rt; names.as_slice(), [first, second].as_slice());
+        if heap.len() == 2 {
+            assert_eq!(rt; [heap.entry_at(0).0, heap.entry_at(1).0], [first, second]);
+        }
+        assert_eq!(rt; heap.refs(first), 1);
+        assert_eq!(rt; heap.first_loose(), Some(second));
         let held = heap.get(second).and_then(|object| object.fields.get(0));
         assert_eq!(rt; held, Some(Value::Ref(Some(first))));
-        if heap.len() == 2 {
-            heap.seal_marked(&[false, true]);
-        }
+        heap.seal(second);
+        assert_eq!(rt; heap.first_loose(), None);
         heap.remove(first);
         assert_eq!(rt; heap.len(), 1);
         assert_eq!(rt; heap.get(second).map(|object| object.sealed), Some(true));

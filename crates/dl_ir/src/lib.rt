@@ -4,6 +4,7 @@
 
 mod answers;
 mod calls;
+mod census;
 mod expressions;
 mod heaps;
 mod modules;
@@ -11,6 +12,7 @@ mod moves;
 mod names;
 mod objects;
 mod statements;
+mod tables;
 
 pub use answers::{Answer, End, Entry, Fault, Refusal};
 pub use calls::{Call, Calls};

@@ -93,7 +93,8 @@ impl Fields {
     }
 
     pub fn as_slice(&self) -> &[Value]
-        ensures { result.now ≡ self.now }
+        ensures value { result.now ≡ self.now }
+        ensures few { length result.now ≤ 16 }
     {
         &self.cells[..self.len]
     }

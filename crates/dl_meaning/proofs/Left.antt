@@ -21,7 +21,7 @@ use Rattle.dl_ir.specs.Heap.{Objects, IsHeapOf, root}
 use Rattle.dl_ir.specs.Typed.{types_of}
 use Rattle.dl_shape.specs.Operation.{root_number, argument_value, result_of, operated_where}
 use Rattle.dl_shape.specs.Replay.{after_call, greatest_ticket, IsLegalFrom, ends, goes_on}
-use Rattle.dl_shape.proofs.Members.{Held, In, in_entries}
+use Rattle.dl_ir.proofs.Members.{Held, In, in_entries}
 use Rattle.dl_meaning.specs.FirstStates.{AllHold, HasTicketsBelow}
 use Rattle.dl_meaning.specs.Fitting.{Fits, HoldsType}
 use Rattle.dl_meaning.specs.Operations.{context_of, begun, OperationsHaveOneOutcome, CallsGiveTheOutcome, CallsLeaveHeaps, AreFilesOf, RisesFrom, ReplaysLeaveHeaps, LegalReplaysLeaveHeaps}

@@ -18,7 +18,8 @@ use Rattle.dl_ir.specs.declared.objects.Obj.{Obj}
 use Rattle.dl_ir.specs.Heap.{Objects, name_cmp, HasType, HasFields, IsHeapOf, IsNodeKind, IsRootOf}
 use Rattle.dl_shape.specs.References.{name_eq, refers_to, refs}
 use Rattle.dl_shape.specs.Settling.{is_shared, IsLoose, Trims, done, drop, trim, sealed_entry, sealed_heap, settled}
-use Rattle.dl_shape.proofs.Members.{Held, names_total, exact_names, in_entries, term_le}
+use Rattle.dl_ir.proofs.Members.{Held, in_entries, term_le}
+use Rattle.dl_ir.proofs.NameOrder.{names_total, exact_names}
 use Rattle.dl_shape.proofs.Order.{order_does_not_matter}
 use Rattle.dl_meaning.specs.FirstStates.{HasTicketsBelow}
 use Rattle.dl_meaning.proofs.Heaps.{Stays, fields_stay}

@@ -71,7 +71,7 @@ fn run_body(
         allocs: op.allocs,
     };
     let end = run_block(source, task, &op.body, &mut frame, heap).unwrap_or(End::Ok(0));
-    let breach = settle(alloc, heap)?;
+    let breach = settle(heap);
     Ok(Answer { end, breach })
 }
 

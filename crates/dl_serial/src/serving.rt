@@ -64,7 +64,7 @@ pub fn run_calls(
     ensures free { IfOk result (λ served. served.free + hidden_count heap.new.objects ≡ places) }
     ensures heap { OnOk result (IsHeapOf source.now heap.new.objects) }
 {
-    let hidden = hidden_objects(heap);
+    let hidden = heap.hidden_len();
     let mut line = Line {
         entries: Items::new(alloc),
         refusals: Items::new(alloc),
@@ -80,16 +80,6 @@ pub fn run_calls(
         refusals: line.refusals,
         free: line.free,
     })
-}
-
-// The number of hidden objects.
-fn hidden_objects(heap: &Heap) -> usize
-    ensures { result ≡ hidden_count heap.now.objects }
-{
-    heap.entries()
-        .iter()
-        .filter(|entry| entry.0.ticket > 0)
-        .count()
 }
 
 // Carries out a call, or refuses it.

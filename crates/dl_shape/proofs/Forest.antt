@@ -14,7 +14,7 @@ use Rattle.dl_ir.specs.Heap.{Objects}
 use Rattle.dl_shape.specs.References.{name_eq, refers_to, refs, IsForest}
 use Rattle.dl_shape.specs.Settling.{is_shared}
 use Rattle.dl_shape.specs.Forests.{names_root, stands_in_forest}
-use Rattle.dl_shape.proofs.Members.{In, in_entries, get_in, all_pass, term_le, zeros}
+use Rattle.dl_ir.proofs.Members.{In, in_entries, get_in, all_pass, term_le, zeros}
 
 abbrev one_if : Bool → ℕ
 one_if b = cond b 1 0

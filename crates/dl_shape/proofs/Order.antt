@@ -13,8 +13,9 @@ use Rattle.dl_ir.specs.declared.objects.Obj.{Obj}
 use Rattle.dl_ir.specs.Heap.{Objects, name_cmp}
 use Rattle.dl_shape.specs.References.{refs, refers_to}
 use Rattle.dl_shape.specs.Settling.{is_loose, first_name, IsLoose, Trims, done, drop, without, trim_by, OrderDoesNotMatter}
-use Rattle.dl_shape.proofs.Members.{In, names_total, exact_names, in_entries, get_in, find_some, find_none}
-use Rattle.dl_shape.proofs.Totals.{total-remove, gone, put_back}
+use Rattle.dl_ir.proofs.NameOrder.{names_total, exact_names}
+use Rattle.dl_ir.proofs.Members.{In, in_entries, get_in, find_some, find_none}
+use Rattle.dl_ir.proofs.Totals.{total-remove, gone, put_back}
 
 -- names are the same or differ
 same_or_not : (a b : Name) → (a ≡ b) ⊎ (eq_by_cmp name_cmp a b ≡ false)

@@ -1,26 +1,10 @@
-use Rattle.std.specs.Prelude.{◌≡◌, ◌&&◌, ◌||◌, ◌==◌, ℕ, Bool, true, false, zero, suc, Option, Some, None, find, map, nat_lt, nat_le, if◌then◌else◌}
-use Rattle.std.specs.Option.{option_map}
+use Rattle.std.specs.Prelude.{◌≡◌, ◌||◌, ℕ, false, zero, suc, Option, Some, None, map}
 use Rattle.std.specs.FinMap as finite
 use Rattle.dl_ir.specs.declared.names.Name.{Name}
 use Rattle.dl_ir.specs.declared.objects.Obj.{Obj}
 use Rattle.dl_ir.specs.Heap.{Objects, IsHidden}
-use Rattle.dl_shape.specs.References.{refs}
-
--- the object is hidden and unsealed
-abbrev pub is_open : Name × Obj → Bool
-is_open entry = nat_lt 0 entry.0.ticket && (if entry.1.sealed then false else true)
-
--- the object is hidden and unsealed, and no field refers to it
-abbrev pub is_loose : Objects → Name × Obj → Bool
-is_loose heap entry = is_open entry && (refs heap entry.0 == 0)
-
--- the object is hidden and unsealed, and two fields or more refer to it
-abbrev pub is_shared : Objects → Name × Obj → Bool
-is_shared heap entry = is_open entry && nat_le 2 (refs heap entry.0)
-
--- the name of the first object in the order of names that passes a test
-abbrev pub first_name : (Name × Obj → Bool) → Objects → Option Name
-first_name test heap = option_map (λ (entry : Name × Obj). entry.0) (find test (finite.entries heap))
+use Rattle.dl_ir.specs.References.{refs}
+pub use Rattle.dl_ir.specs.References.{is_open, is_loose, is_shared, first_name}
 
 -- the object of this name is hidden and unsealed, and no field refers to it
 pub record IsLoose (heap : Objects) (name : Name) : Type 0 where

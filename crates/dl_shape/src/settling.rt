@@ -1,23 +1,18 @@
-ghost use Rattle.std.specs.Prelude.{◌≡◌, ◌+◌, ◌++◌, ◌≤◌, ◌↔◌, IfOk, OnOk, OnErr, map as map_list, vec_len, vec_capacity};
-ghost use Rattle.std.specs.FinMap as map;
-ghost use Rattle.dl_shape.specs.Settling.{is_loose, is_shared, first_name, trim, settled, breach_of, OrderDoesNotMatter};
+ghost use Rattle.std.specs.Prelude.{◌≡◌};
+ghost use Rattle.dl_shape.specs.Settling.{trim, sealed_heap, settled, breach_of, OrderDoesNotMatter};
 
-use crate::references::{is_loose, is_shared};
 use dl_ir::{Heap, Name};
-use std::alloc::{AllocError, Global};
 
 /// Removes what is loose, seals what two fields or more then refer to, and answers the least name newly sealed.
-pub fn settle(alloc: Global, heap: &mut Heap) -> Result<Option<Name>, AllocError>
-    ensures ok { OnOk result (heap.new ≡ record heap.old { objects = settled heap.old.objects }) }
-    ensures breach { IfOk result (λ breach. breach ≡ breach_of heap.old.objects) }
-    ensures err { OnErr result (heap.new ≡ heap.old) }
+/// It takes no memory, and touches only what it removes, what that refers to, and what it seals.
+pub fn settle(heap: &mut Heap) -> Option<Name>
+    ensures heap { heap.new ≡ record heap.old { objects = settled heap.old.objects } }
+    ensures breach { result ≡ breach_of heap.old.objects }
 {
-    let mut marks = Vec::with_capacity(alloc, heap.len())?;
     trim(heap);
-    let breach = first_shared(heap);
-    mark_shared(heap, &mut marks);
-    heap.seal_marked(&marks);
-    Ok(breach)
+    let breach = heap.first_shared();
+    seal_shared(heap);
+    breach
 }
 
 /// That loose objects may be removed in any order: what is left in the end is the same.
@@ -27,50 +22,19 @@ pub fn order_of_removals()
 
 // Removes loose objects until none is left.
 fn trim(heap: &mut Heap)
-    ensures trimmed { heap.new ≡ record heap.old { objects = trim heap.old.objects } }
-    ensures fewer { map.len heap.new.objects ≤ map.len heap.old.objects }
+    ensures { heap.new ≡ record heap.old { objects = trim heap.old.objects } }
 {
-    while let Some(name) = first_loose(heap) {
+    while let Some(name) = heap.first_loose() {
         heap.remove(name);
     }
 }
 
-fn first_loose(heap: &Heap) -> Option<Name>
-    ensures { result ≡ first_name (is_loose heap.now.objects) heap.now.objects }
+// Seals shared objects until none is left.
+fn seal_shared(heap: &mut Heap)
+    ensures { heap.new ≡ record heap.old { objects = sealed_heap heap.old.objects } }
 {
-    let entries = heap.entries();
-    for (name, object) in entries {
-        if is_loose(heap, *name, object) {
-            return Some(*name);
-        }
-    }
-    None
-}
-
-fn first_shared(heap: &Heap) -> Option<Name>
-    ensures { result ≡ first_name (is_shared heap.now.objects) heap.now.objects }
-{
-    let entries = heap.entries();
-    for (name, object) in entries {
-        if is_shared(heap, *name, object) {
-            return Some(*name);
-        }
-    }
-    None
-}
-
-// Adds a mark for each object, by whether it is shared. There is room for the marks.
-fn mark_shared(heap: &Heap, marks: &mut Vec<bool>)
-    requires { vec_len marks.old + map.len heap.now.objects ≤ vec_capacity marks.old }
-    ensures { marks.new.items ≡ marks.old.items ++ map_list (is_shared heap.now.objects) (map.entries heap.now.objects) }
-{
-    let entries = heap.entries();
-    for (name, object) in entries {
-        let mark = is_shared(heap, *name, object);
-        match marks.push(mark) {
-            Ok(()) => {}
-            Err(_) => unreachable!(),
-        }
+    while let Some(name) = heap.first_shared() {
+        heap.seal(name);
     }
 }
 
@@ -134,10 +98,10 @@ mod tests {
             assert_eq!(rt; found, Some(count));
         }
         assert!(rt; !is_forest(&heap));
-        assert_eq!(rt; settle(alloc, &mut heap)?, Some(item));
+        assert_eq!(rt; settle(&mut heap), Some(item));
         assert_eq!(rt; heap.len(), 2);
         assert!(rt; is_forest(&heap));
-        assert_eq!(rt; settle(alloc, &mut heap)?, None);
+        assert_eq!(rt; settle(&mut heap), None);
         Ok(())
     }
 }

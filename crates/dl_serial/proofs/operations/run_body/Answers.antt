@@ -6,4 +6,4 @@ pub first_locals-requires : goal.first_locals-requires
 first_locals-requires c = all_held _ _ _ c.requires.start c.requires.fits
 
 pub returns-clause-grows : goal.returns-clause-grows
-returns-clause-grows c = rw c.in_ok-breach.ensures.ok (grows-operation c.run_block.ensures.grows (grows-settled _) c.run_block.ensures.room.made)
+returns-clause-grows c = rw c.settle-breach.ensures.heap (grows-operation c.run_block.ensures.grows (grows-settled _) c.run_block.ensures.room.made)

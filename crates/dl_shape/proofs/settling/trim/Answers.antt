@@ -18,6 +18,5 @@ loop-name-preserved c =
     let step = trim_step h c.in-Some.name trims.0 c.in-Some.ensures trims.1 in
     rw c.remove.ensures (record {
       trims = (step.0, step.1, step.2 ∙ trims.2);
-      fewer = omega (arith, len_removed h c.in-Some.name there.0 there.1, c.loop-name.invariant.fewer);
       room = c.loop-name.invariant.room;
     })

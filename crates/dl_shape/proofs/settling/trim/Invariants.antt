@@ -7,7 +7,6 @@ use Rattle.dl_shape.proofs.settling.trim.Given as goal
 abbrev pub invariant-loop-name : goal.invariant-loop-name
 invariant-loop-name l = record {
   trims : (count : ℕ) × (map.len l.heap.objects ≤ count) × (trim_by count l.heap.objects ≡ trim l.fn.heap.objects);
-  fewer : map.len l.heap.objects ≤ map.len l.fn.heap.objects;
   room : l.heap.room ≡ l.fn.heap.room;
 }
 

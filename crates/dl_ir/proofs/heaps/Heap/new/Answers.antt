@@ -1,8 +1,7 @@
-use Rattle.std.proofs.Common.{[], length, ap, ◌∙◌}
-use Rattle.std.specs.FinMap.{len-entries, entries-from_sorted, empty_of_len}
-use Rattle.dl_ir.specs.Heap.{name_cmp}
-use Rattle.dl_ir.proofs.Edits.{made}
+use Rattle.std.proofs.Common.{arith}
+use Rattle.dl_ir.proofs.Keeping.{kept_empty}
 use Rattle.dl_ir.proofs.heaps.Heap.new.Goals as goal
 
-pub returns : goal.returns
-returns c = rw c.in_ok-with_capacity.ensures.items (ap (λ objects. record { objects = objects; room = c.args.room }) (empty_of_len (made []) (len-entries (made []) ∙ ap length (entries-from_sorted name_cmp [] tt))))
+pub invariant_of-result : goal.invariant_of-result
+invariant_of-result c =
+    kept_empty c.in_ok-new.field-0 c.args.room c.in_ok-new.ensures.objects c.in_ok-new.ensures.counts c.in_ok-new.ensures.filed (omega (arith, c.if-room-gt-MOST_OBJECTS.false))

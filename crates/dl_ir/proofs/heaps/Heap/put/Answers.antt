@@ -1,40 +1,14 @@
-use Rattle.std.proofs.Common.{arith, ap}
-use Rattle.dl_ir.proofs.Counted.{len-made}
-use Rattle.dl_ir.proofs.Edits.{at_within, gap_within, heap-set, made-set, heap-insert, made-insert}
+use Rattle.std.proofs.Common.{ap, arith}
+use Rattle.dl_ir.proofs.Lookups.{gone}
+use Rattle.dl_ir.proofs.Filing.{fewer}
+use Rattle.dl_ir.proofs.Keeping.{put_over}
 use Rattle.dl_ir.proofs.heaps.Heap.put.Goals as goal
 
-pub index_mut-requires : goal.index_mut-requires
-index_mut-requires c =
-    let found = rw c.deref.ensures.value at c.in-Ok.ensures.found in
-    omega (arith, at_within _ _ _ _ _ c.self.invariant found, c.self.inside.entries.ok)
+pub enter-requires-clause-absent : goal.enter-requires-clause-absent
+enter-requires-clause-absent c = rw c.remove.ensures (gone c.args.self.now.objects c.args.name)
 
-pub invariant_of-self : goal.invariant_of-self
-invariant_of-self c =
-    let found = rw c.deref.ensures.value at c.in-Ok.ensures.found in
-    heap-set _ _ _ _ _ c.self.invariant found _
+pub enter-requires-clause-room : goal.enter-requires-clause-room
+enter-requires-clause-room c = rw c.remove.ensures (omega (arith, c.requires, fewer c.args.self.now.objects c.args.name))
 
-pub returns-in-Ok : goal.returns-in-Ok
-returns-in-Ok c =
-    let found = rw c.deref.ensures.value at c.in-Ok.ensures.found in
-    rw (← c.self.view_is) (ap (λ objects. record { objects = objects; room = c.self.inside.room }) (made-set _ _ _ _ _ c.self.invariant found _))
-
-pub insert-requires : goal.insert-requires
-insert-requires c =
-    let absent = rw c.deref.ensures.value at c.in-Err.ensures.absent in
-    omega (arith, gap_within _ _ _ _ _ c.self.invariant absent, c.self.inside.entries.ok)
-
-pub invariant_of-self-in-Ok-insert : goal.invariant_of-self-in-Ok-insert
-invariant_of-self-in-Ok-insert c =
-    let absent = rw c.deref.ensures.value at c.in-Err.ensures.absent in
-    let room = rw (← c.self.view_is, len-made c.self.invariant) at c.requires in
-    rw c.in-Ok-insert.ensures.items (heap-insert _ _ _ _ _ c.self.invariant absent _ _ room c.in-Ok-insert.ensures.capacity)
-
-pub unreachable-requires : goal.unreachable-requires
-unreachable-requires c =
-    let room = rw (← c.self.view_is, len-made c.self.invariant) at c.requires in
-    omega (arith, room, c.in-Err-insert.ensures.full, c.self.invariant.reserved, c.self.inside.entries.ok)
-
-pub returns-in-Ok-insert : goal.returns-in-Ok-insert
-returns-in-Ok-insert c =
-    let absent = rw c.deref.ensures.value at c.in-Err.ensures.absent in
-    rw (← c.self.view_is, c.in-Ok-insert.ensures.items) (ap (λ objects. record { objects = objects; room = c.self.inside.room }) (made-insert _ _ _ _ _ c.self.invariant absent _))
+pub returns : goal.returns
+returns c = rw (c.enter.ensures, c.remove.ensures) (ap (λ objects. record { objects = objects; room = c.args.self.now.room }) (put_over c.args.self.now.objects c.args.name c.args.object))

@@ -1,36 +1,23 @@
-use Rattle.std.proofs.Common.{set, ap, ◌∙◌}
-use Rattle.dl_ir.specs.declared.names.Name.{Name}
-use Rattle.dl_ir.specs.declared.objects.Obj.{Obj}
-use Rattle.dl_ir.specs.Heap.{with_field_of}
-use Rattle.dl_ir.proofs.Edits.{made, at_within, got, got_none, heap-set, made-set}
+use Rattle.std.proofs.Common.{refl, ap, ◌≡◌}
+use Rattle.dl_ir.specs.Heap.{View}
+use Rattle.dl_ir.proofs.Keeping.{filed_field, lost_few, kept_field, no_field}
 use Rattle.dl_ir.proofs.heaps.Heap.set_field.Goals as goal
 
-pub set_at-requires : goal.set_at-requires
-set_at-requires c =
-    let found = rw c.deref.ensures.value at c.in-Ok.ensures.found in
-    at_within _ _ _ _ _ c.self.invariant found
+pub lose-requires : goal.lose-requires
+lose-requires c =
+    rw c.set_field.ensures (record { filed = filed_field c.self.inside.census c.self.inside.may_dangle c.self.invariant c.args.name c.args.field c.in-Some.before c.args.value c.in-Some.ensures })
 
--- the entry at the place is written over
+pub gain-there-requires-clause-few : goal.gain-there-requires-clause-few
+gain-there-requires-clause-few c =
+    lost_few c.self.inside.census c.self.inside.may_dangle c.self.invariant c.args.name c.args.field c.in-Some.before c.args.value c.in-Some.ensures c.lose.new.self.counts.rows c.lose.ensures.counts
+
 pub invariant_of-self : goal.invariant_of-self
 invariant_of-self c =
-    let found = rw c.deref.ensures.value at c.in-Ok.ensures.found in
-    let e = got _ _ _ _ _ c.self.invariant found in
-    let object : Obj = record e.0.1 { fields = set e.0.1.fields c.args.field c.args.value } in
-    let items = c.set_at.ensures.field e.0 e.1 ∙ ap (λ (n : Name). set c.self.inside.entries.items c.in-Ok.at (n, object)) e.2 in
-    rw (items, c.set_at.ensures.capacity) (heap-set _ _ _ _ _ c.self.invariant found object)
-
-pub returns-in-Ok : goal.returns-in-Ok
-returns-in-Ok c =
-    let found = rw c.deref.ensures.value at c.in-Ok.ensures.found in
-    let e = got _ _ _ _ _ c.self.invariant found in
-    let object : Obj = record e.0.1 { fields = set e.0.1.fields c.args.field c.args.value } in
-    let items = c.set_at.ensures.field e.0 e.1 ∙ ap (λ (n : Name). set c.self.inside.entries.items c.in-Ok.at (n, object)) e.2 in
-    rw (← c.self.view_is, items) (ap (λ objects. record { objects = objects; room = c.self.inside.room }) (
-    made-set _ _ _ _ _ c.self.invariant found object
-    ∙ ap (with_field_of (made c.self.inside.entries.items) c.args.name c.args.field c.args.value) e.3))
+    kept_field c.self.inside.census c.self.inside.may_dangle c.self.invariant c.args.name c.args.field c.in-Some.before c.args.value c.in-Some.ensures
+    c.gain-there.new.self c.lose.new.self.counts.rows c.gain-there.result
+    (rw (c.gain-there.ensures.objects, c.lose.ensures.objects, c.set_field.ensures) refl) c.gain-there.ensures.filed c.lose.ensures.counts c.gain-there.ensures.counts
+    (rw (c.lose.ensures.objects, c.set_field.ensures) at c.gain-there.ensures.there)
 
 pub returns-in_default : goal.returns-in_default
 returns-in_default c =
-    let absent = rw c.deref.ensures.value at c.in_default.ensures.absent in
-    rw (← c.self.view_is) (ap (λ objects. record { objects = objects; room = c.self.inside.room }) (
-    ap (with_field_of (made c.self.inside.entries.items) c.args.name c.args.field c.args.value) (got_none _ _ _ _ _ c.self.invariant absent)))
+    rw (← c.self.view_is) (ap (λ objects. record { objects = objects; room = c.self.inside.census.objects.room }) (no_field c.self.inside.census.objects.rows c.args.name c.args.field c.args.value c.in_default.ensures))

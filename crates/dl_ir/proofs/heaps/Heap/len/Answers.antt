@@ -1,6 +1,0 @@
-use Rattle.std.proofs.Common.{arith}
-use Rattle.dl_ir.proofs.Counted.{len-made}
-use Rattle.dl_ir.proofs.heaps.Heap.len.Goals as goal
-
-pub returns : goal.returns
-returns c = rw (← c.self.view_is) (omega (arith, len-made c.self.invariant, c.len.ensures, c.self.inside.entries.ok))

@@ -1,0 +1,36 @@
+use Rattle.std.proofs.Common.{set, ap, ◌∙◌}
+use Rattle.dl_ir.specs.declared.names.Name.{Name}
+use Rattle.dl_ir.specs.declared.objects.Obj.{Obj}
+use Rattle.dl_ir.specs.Heap.{with_field_of}
+use Rattle.dl_ir.proofs.Edits.{made, at_within, got, got_none, table-set, made-set}
+use Rattle.dl_ir.proofs.tables.Table+Obj.set_field.Goals as goal
+
+pub set_at-requires : goal.set_at-requires
+set_at-requires c =
+    let found = rw c.deref.ensures.value at c.in-Ok.ensures.found in
+    at_within _ _ _ _ _ c.self.invariant found
+
+-- the entry at the place is written over
+pub invariant_of-self : goal.invariant_of-self
+invariant_of-self c =
+    let found = rw c.deref.ensures.value at c.in-Ok.ensures.found in
+    let e = got _ _ _ _ _ c.self.invariant found in
+    let object : Obj = record e.0.1 { fields = set e.0.1.fields c.args.field c.args.value } in
+    let items = c.set_at.ensures.field e.0 e.1 ∙ ap (λ (n : Name). set c.self.inside.entries.items c.in-Ok.at (n, object)) e.2 in
+    rw (items, c.set_at.ensures.capacity) (table-set _ _ _ _ _ c.self.invariant found object)
+
+pub returns-in-Ok : goal.returns-in-Ok
+returns-in-Ok c =
+    let found = rw c.deref.ensures.value at c.in-Ok.ensures.found in
+    let e = got _ _ _ _ _ c.self.invariant found in
+    let object : Obj = record e.0.1 { fields = set e.0.1.fields c.args.field c.args.value } in
+    let items = c.set_at.ensures.field e.0 e.1 ∙ ap (λ (n : Name). set c.self.inside.entries.items c.in-Ok.at (n, object)) e.2 in
+    rw (← c.self.view_is, items) (ap (λ rows. record { rows = rows; room = c.self.inside.room }) (
+    made-set _ _ _ _ _ c.self.invariant found object
+    ∙ ap (with_field_of (made c.self.inside.entries.items) c.args.name c.args.field c.args.value) e.3))
+
+pub returns-in_default : goal.returns-in_default
+returns-in_default c =
+    let absent = rw c.deref.ensures.value at c.in_default.ensures.absent in
+    rw (← c.self.view_is) (ap (λ rows. record { rows = rows; room = c.self.inside.room }) (
+    ap (with_field_of (made c.self.inside.entries.items) c.args.name c.args.field c.args.value) (got_none _ _ _ _ _ c.self.invariant absent)))

@@ -1,0 +1,21 @@
+-- Values under names, as a table has them.
+use Rattle.std.specs.Prelude.{ℕ, List, [], ◌∷◌, refl}
+use Rattle.std.specs.Coded.{Coded, code_by, coded×, coded_ℕ}
+use Rattle.std.specs.FinMap.{FinMap, code, insert}
+use Rattle.dl_ir.specs.declared.names.Name.{Name}
+use Rattle.dl_ir.specs.Values.{coded_name}
+use Rattle.dl_ir.specs.Heap.{name_cmp}
+
+-- A finite map from names to values, and the number of values that there is memory for.
+pub record Rows (X : Type 0) : Type 0 where
+  pub rows : FinMap name_cmp X
+  pub room : ℕ
+
+-- Rows are stored as the map and the room.
+abbrev pub coded_rows : {X : Type 0} → Coded X → Coded (Rows X)
+coded_rows {X} coded_value = code_by (FinMap name_cmp X × ℕ) (coded× (code coded_name coded_value) coded_ℕ) (λ t. (t.rows, t.room)) (λ p. record { rows = p.0; room = p.1 }) (λ _. refl)
+
+-- The map with these entries put in, one after another.
+abbrev pub added : {X : Type 0} → FinMap name_cmp X → List (Name × X) → FinMap name_cmp X
+added rows [] = rows
+added rows (e ∷ es) = added (insert rows e.0 e.1) es
