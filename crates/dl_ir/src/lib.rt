@@ -4,6 +4,7 @@
 
 mod answers;
 mod calls;
+mod closed;
 mod expressions;
 mod heaps;
 mod modules;
@@ -14,6 +15,7 @@ mod statements;
 
 pub use answers::{Answer, End, Entry, Fault, Refusal};
 pub use calls::{Call, Calls};
+pub use closed::Closed;
 pub use expressions::{Cond, Expr, Op, RefSide, Rel};
 pub use heaps::Heap;
 pub use modules::{FieldDecl, KindDecl, LocalDecl, Module, OpDecl, Text, Ty};

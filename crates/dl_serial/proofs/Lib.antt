@@ -5,6 +5,7 @@ mod Lawfulness
 mod Laws
 mod Levels
 mod Lines
+pub mod Listed
 mod Pools
 mod Returns
 mod Rising

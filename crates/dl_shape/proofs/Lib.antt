@@ -4,3 +4,4 @@ mod Marking
 mod Members
 mod Order
 mod Totals
+pub mod Rising
