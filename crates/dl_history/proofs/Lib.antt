@@ -1,2 +1,5 @@
+mod Lists
 mod Loops
 mod Moved
+mod Places
+mod Walk

@@ -1,6 +1,6 @@
 use Rattle.std.specs.Prelude.{◌+◌, ◌≤◌, All, ◌==◌, ◌&&◌, ◌++◌, ℕ, ℤ, pos, negsuc, zero, suc, Bool, true, false, Option, Some, None, List, [], ◌∷◌, length, slice_get, filter, sum_by, codes, decimal}
 use Rattle.std.specs.Fmt.{signed_decimal}
-use Rattle.std.specs.Option.{option_map_or}
+use Rattle.std.specs.Option.{option_map, option_map_or}
 use Rattle.std.specs.List.{find, flat_map, zip}
 use Rattle.std.specs.FinMap as finite
 use Rattle.dl_ir.specs.declared.names.Name.{Name}
@@ -65,20 +65,27 @@ is_entry_of caller index entry = (entry.caller == caller) && (entry.index == ind
 abbrev pub is_refusal_of : ℕ → ℕ → Refusal → Bool
 is_refusal_of caller index refusal = (refusal.caller == caller) && (refusal.index == index)
 
+-- what is said of an operation: its answer, where there is one, and else its refusal
+abbrev pub told_text : Option Answer → Option Refusal → List ℕ
+told_text answer refusal = option_map_or answer_text answer (option_map_or refusal_text refusal [])
+
 -- what the report says of an operation: its answer, where the history has it, and else its refusal
 abbrev pub outcome_text : List Entry → List Refusal → ℕ → ℕ → List ℕ
-outcome_text history refusals caller index = option_map_or (λ (entry : Entry). answer_text entry.answer)
-    (find (is_entry_of caller index) history)
-    (option_map_or refusal_text (find (is_refusal_of caller index) refusals) [])
+outcome_text history refusals caller index = told_text (option_map (λ (entry : Entry). entry.answer) (find (is_entry_of caller index) history))
+    (find (is_refusal_of caller index) refusals)
 
 -- a text for each element of a list, made of its number from a first one on and of the element
 abbrev pub each_from : {A : Type 0} → (ℕ → A → List ℕ) → ℕ → List A → List ℕ
 each_from text number [] = []
 each_from text number (x ∷ rest) = text number x ++ each_from text (number + 1) rest
 
+-- the line `CALLER.INDEX TEXT`
+abbrev pub line_text : ℕ → ℕ → List ℕ → List ℕ
+line_text caller index text = dotted caller index ++ codes " " ++ text ++ codes "\n"
+
 -- the line `CALLER.INDEX ANSWER`
 abbrev pub answer_line : List Entry → List Refusal → ℕ → ℕ → List ℕ
-answer_line history refusals caller index = dotted caller index ++ codes " " ++ outcome_text history refusals caller index ++ codes "\n"
+answer_line history refusals caller index = line_text caller index (outcome_text history refusals caller index)
 
 -- the lines of a caller's operations
 abbrev pub answer_lines : List Entry → List Refusal → ℕ → List Call → List ℕ

@@ -1,19 +1,28 @@
-ghost use Rattle.std.specs.Prelude.{◌≡◌, ◌++◌, [], IfOk, OnOk, slice_get};
-ghost use Rattle.std.specs.Option.{option_map_or};
-ghost use Rattle.dl_ir.specs.declared.modules.OpDecl.{OpDecl};
-ghost use Rattle.dl_shape.specs.Pool.{allocs_at, moves_of, moves_of_entry, reservation_of, return_of};
+ghost use Rattle.std.specs.Prelude.{◌≡◌, ◌≤◌, [], length};
+ghost use Rattle.std.specs.List.{slice_range};
+ghost use Rattle.dl_history.specs.Histories.{Seen, ArePlacesOf, caller_at, index_at};
+ghost use Rattle.dl_history.specs.Orders.{IsOrder};
 
-use crate::operations::call_of;
-use dl_ir::{Calls, Entry, Module, Move};
-use sqlite_items::Items;
-use std::alloc::{AllocError, Global};
+use dl_ir::{Entry, Move};
+use std::alloc::Global;
+use std::marker::Model;
 
 /// The one order of the operations of a run: its entries in rising order of tickets, and the moves of the pool that
-/// they made.
+/// they made, in rising order of versions.
 #[derive(Debug, Drop)]
 pub struct History {
-    pub entries: Items<Entry>,
-    pub moves: Items<Move>,
+    entries: Vec<Entry>,
+    moves: Vec<Move>,
+    // The places of the entries, by caller and index.
+    order: Vec<u32>,
+}
+
+impl Model for History {
+    ghost Value = { Seen };
+
+    ghost view = { λ h. record { entries = h.entries.items; moves = h.moves.items } };
+
+    ghost invariant = { λ h. IsOrder h.entries.items h.order.items };
 }
 
 impl History {
@@ -23,79 +32,78 @@ impl History {
         ensures moves { result.moves ≡ [] }
     {
         History {
-            entries: Items::new(alloc),
-            moves: Items::new(alloc),
+            entries: Vec::new(alloc),
+            moves: Vec::new(alloc),
+            order: Vec::new(alloc),
         }
     }
 
-    /// The history of these entries, with the moves of each in their order.
-    pub fn new(
-        alloc: Global,
-        source: &Module,
-        files: &[Calls],
-        entries: Items<Entry>,
-    ) -> Result<History, AllocError>
-        ensures entries { IfOk result (λ history. history.entries ≡ entries) }
-        ensures moves { IfOk result (λ history. history.moves ≡ moves_of source.now files.now entries) }
+    /// The history of entries whose places are in this order.
+    pub(crate) fn of_parts(entries: Vec<Entry>, moves: Vec<Move>, order: Vec<u32>) -> History
+        requires { IsOrder entries.items order.items }
+        ensures entries { result.entries ≡ entries.items }
+        ensures moves { result.moves ≡ moves.items }
     {
-        let mut moves = Items::new(alloc);
-        'entries: for entry in entries.as_slice() {
-            push_moves(&mut moves, *entry, allocs_of(source, files, *entry))?;
+        History {
+            entries,
+            moves,
+            order,
         }
-        Ok(History { entries, moves })
+    }
+
+    /// The entries in rising order of tickets.
+    pub fn entries(&self) -> &[Entry]
+        ensures { result.now ≡ self.now.entries }
+    {
+        self.entries.as_slice()
+    }
+
+    /// The moves in rising order of versions.
+    pub fn moves(&self) -> &[Move]
+        ensures { result.now ≡ self.now.moves }
+    {
+        self.moves.as_slice()
+    }
+
+    /// The places of a caller's entries, counted from 0, in order of index. There is none for a caller without entries.
+    pub fn places_of(&self, caller: u32) -> &[u32]
+        ensures { ArePlacesOf self.now.entries caller result.now }
+    {
+        let entries = self.entries.as_slice();
+        let order = self.order.as_slice();
+        let (from, to) = part_of(entries, order, caller);
+        &order[from..to]
     }
 }
 
-// The number of objects that the operation with this number may make.
-fn allocs_of_op(source: &Module, op: u32) -> u32
-    ensures { result ≡ option_map_or (λ (decl : OpDecl). decl.allocs) (slice_get source.now.ops op) 0 }
+// Where the places of a caller's entries begin and end among the places of all.
+fn part_of(entries: &[Entry], order: &[u32], caller: u32) -> (usize, usize)
+    requires { IsOrder entries.now order.now }
+    ensures begins { result.0 ≤ result.1 }
+    ensures ends { result.1 ≤ length order.now }
+    ensures part { ArePlacesOf entries.now caller (slice_range order.now result.0 result.1) }
 {
-    match source.ops.get(op as usize) {
-        Some(decl) => decl.allocs,
+    let from = order.partition_point(|place| caller_at(entries, *place) < caller);
+    let to = order.partition_point(|place| caller_at(entries, *place) <= caller);
+    (from, to)
+}
+
+/// The caller of the entry at a place, or 0.
+pub fn caller_at(entries: &[Entry], place: u32) -> u32
+    ensures { result ≡ caller_at entries.now place }
+{
+    match entries.get(place as usize) {
+        Some(entry) => entry.caller,
         None => 0,
     }
 }
 
-// The number of objects that the operation of an entry may make.
-fn allocs_of(source: &Module, files: &[Calls], entry: Entry) -> u32
-    ensures { result ≡ allocs_at source.now files.now entry.caller entry.index }
+/// The index of the entry at a place, or 0.
+pub fn index_at(entries: &[Entry], place: u32) -> u32
+    ensures { result ≡ index_at entries.now place }
 {
-    match call_of(files, entry.caller, entry.index) {
-        Some(call) => allocs_of_op(source, call.op),
+    match entries.get(place as usize) {
+        Some(entry) => entry.index,
         None => 0,
     }
-}
-
-fn push_reservation(moves: &mut Items<Move>, entry: Entry, allocs: u32) -> Result<(), AllocError>
-    ensures { OnOk result (moves.new ≡ moves.old ++ reservation_of entry allocs) }
-{
-    if allocs == 0 {
-        return Ok(());
-    }
-    moves.push(Move {
-        version: entry.reserved_at,
-        change: 0 - allocs as i64,
-        ticket: entry.ticket,
-    })
-}
-
-fn push_return(moves: &mut Items<Move>, entry: Entry) -> Result<(), AllocError>
-    ensures { OnOk result (moves.new ≡ moves.old ++ return_of entry) }
-{
-    if entry.returned == 0 {
-        return Ok(());
-    }
-    moves.push(Move {
-        version: entry.returned_at,
-        change: entry.returned as i64,
-        ticket: entry.ticket,
-    })
-}
-
-// Pushes the moves of an entry whose operation may make so many objects.
-fn push_moves(moves: &mut Items<Move>, entry: Entry, allocs: u32) -> Result<(), AllocError>
-    ensures { OnOk result (moves.new ≡ moves.old ++ (reservation_of entry allocs ++ return_of entry)) }
-{
-    push_reservation(moves, entry, allocs)?;
-    push_return(moves, entry)
 }

@@ -4,10 +4,12 @@
 
 mod heaps;
 mod histories;
+mod merging;
 mod operations;
 mod pieces;
 mod pool;
 mod reports;
 
 pub use histories::History;
+pub use merging::{MergeRoom, merge};
 pub use reports::write_report;

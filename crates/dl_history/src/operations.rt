@@ -1,95 +1,122 @@
-ghost use Rattle.std.specs.Prelude.{◌≡◌, ◌≤◌, [], false, length, sum_by, codes};
+ghost use Rattle.std.specs.Prelude.{◌≡◌, ◌≤◌, ◌<◌, ◌+◌, ℕ, [], ◌∷◌, false, length, sum_by, codes, slice_get};
 ghost use Rattle.std.specs.Option.{option_copied, option_map_or};
-ghost use Rattle.std.specs.List.{find, flat_map};
-ghost use Rattle.dl_ir.specs.Cover.{call_at};
+ghost use Rattle.std.specs.List.{flat_map};
+ghost use Rattle.dl_ir.specs.Cover.{call_at, runs_of, refusals_of, one_if_there, Covers};
 ghost use Rattle.dl_text.specs.Writing.{Puts};
-ghost use Rattle.dl_history.specs.Report.{outcome_text, answer_line, answer_lines, answers_part, op_text, call_text, place_text, history_line, history_part, is_entry_of, is_refusal_of, refusal_text, argument_text, each_from, head_line, AreFew};
+ghost use Rattle.dl_history.specs.Histories.{joined, AreByCaller};
+ghost use Rattle.dl_history.specs.Orders.{AreRefusalsOf, answer_at, answer_with};
+ghost use Rattle.dl_history.specs.Report.{told_text, line_text, answer_lines, answers_part, op_text, call_text, place_text, history_line, history_part, argument_text, each_from, head_line, AreFew};
 
+use crate::histories::History;
 use crate::pieces::{put_answer, put_argument, put_dotted, put_head, put_refusal, put_text};
-use dl_ir::{Call, Calls, Entry, Module, Refusal};
+use dl_ir::{Answer, Call, Calls, Entry, Module, Refusal};
 use dl_text::{Failed, Out, Sink};
+use sqlite_items::{Items, at};
 
-fn entry_of<'a>(entries: &'a [Entry], caller: u32, index: u32) -> Option<&'a Entry>
-    ensures { option_copied result ≡ find (is_entry_of caller index) entries.now }
+// The answer of the entry at a place, where that entry has this index.
+fn answer_in(entries: &[Entry], place: u32, index: u32) -> Option<Answer>
+    ensures { result ≡ answer_with index (slice_get entries.now place) }
 {
-    entries
-        .iter()
-        .find(|entry| entry.caller == caller && entry.index == index)
-}
-
-fn refusal_of<'a>(refusals: &'a [Refusal], caller: u32, index: u32) -> Option<&'a Refusal>
-    ensures { option_copied result ≡ find (is_refusal_of caller index) refusals.now }
-{
-    refusals.iter().find(|refusal| refusal.caller == caller && refusal.index == index)
-}
-
-// Puts the refusal of an operation that is not in the history.
-fn put_refused<K: Sink>(
-    out: &mut Out,
-    sink: &mut K,
-    refusals: &[Refusal],
-    caller: u32,
-    index: u32,
-) -> Result<(), Failed>
-    requires { out.old.failed ≡ false }
-    ensures { Puts (K.taken sink.old) out.old (option_map_or refusal_text (find (is_refusal_of caller index) refusals.now) []) result (K.taken sink.new) out.new }
-{
-    match refusal_of(refusals, caller, index) {
-        Some(refusal) => put_refusal(out, sink, *refusal),
-        None => out.put(sink, b""),
+    let entry = entries.get(place as usize)?;
+    if entry.index == index {
+        Some(entry.answer)
+    } else {
+        None
     }
 }
 
-// Puts what the report says of an operation: its answer, where the history has it, and else its refusal.
-fn put_outcome<K: Sink>(
+// The answer of the next of a caller's entries, where that entry has this index.
+fn next_answer(entries: &[Entry], places: &[u32], told: usize, index: u32) -> Option<Answer>
+    ensures { result ≡ answer_at entries.now index (slice_get places.now told) }
+{
+    let place = places.get(told)?;
+    answer_in(entries, *place, index)
+}
+
+// The next of a caller's refusals.
+fn next_refusal(refusals: &[Refusal], passed: usize) -> Option<Refusal>
+    ensures { result ≡ slice_get refusals.now passed }
+{
+    at(refusals, passed).copied()
+}
+
+// The refusals of a caller, in order of index.
+fn refusals_of<'a>(refusals: &'a [Items<Refusal>], caller: u32) -> &'a [Refusal]
+    requires caller { 0 < caller }
+    requires by_caller { AreByCaller refusals.now }
+    ensures { AreRefusalsOf (joined refusals.now) caller result.now }
+{
+    match at(refusals, caller as usize - 1) {
+        Some(list) => list.as_slice(),
+        None => &[],
+    }
+}
+
+// Puts an answer, or a refusal where there is none.
+fn put_told<K: Sink>(
     out: &mut Out,
     sink: &mut K,
-    entries: &[Entry],
-    refusals: &[Refusal],
-    caller: u32,
-    index: u32,
+    answer: Option<Answer>,
+    refusal: Option<Refusal>,
 ) -> Result<(), Failed>
     requires { out.old.failed ≡ false }
-    ensures { Puts (K.taken sink.old) out.old (outcome_text entries.now refusals.now caller index) result (K.taken sink.new) out.new }
+    ensures { Puts (K.taken sink.old) out.old (told_text answer refusal) result (K.taken sink.new) out.new }
 {
-    match entry_of(entries, caller, index) {
-        Some(entry) => put_answer(out, sink, entry.answer),
-        None => put_refused(out, sink, refusals, caller, index),
+    match (answer, refusal) {
+        (Some(answer), _) => put_answer(out, sink, answer),
+        (None, Some(refusal)) => put_refusal(out, sink, refusal),
+        (None, None) => out.put(sink, b""),
     }
 }
 
 fn put_answer_line<K: Sink>(
     out: &mut Out,
     sink: &mut K,
-    entries: &[Entry],
-    refusals: &[Refusal],
     caller: u32,
     index: u32,
+    answer: Option<Answer>,
+    refusal: Option<Refusal>,
 ) -> Result<(), Failed>
     requires { out.old.failed ≡ false }
-    ensures { Puts (K.taken sink.old) out.old (answer_line entries.now refusals.now caller index) result (K.taken sink.new) out.new }
+    ensures { Puts (K.taken sink.old) out.old (line_text caller index (told_text answer refusal)) result (K.taken sink.new) out.new }
 {
     put_dotted(out, sink, caller as u64, index)?;
     out.put(sink, b" ")?;
-    put_outcome(out, sink, entries, refusals, caller, index)?;
+    put_told(out, sink, answer, refusal)?;
     out.put(sink, b"\n")
 }
 
-// Puts a line for each operation of a caller.
+// Puts a line for each operation of a caller: its entries and its refusals are gone through side by side.
 fn put_answer_lines<K: Sink>(
     out: &mut Out,
     sink: &mut K,
-    entries: &[Entry],
-    refusals: &[Refusal],
+    history: &History,
+    refusals: &[Items<Refusal>],
     caller: u32,
     calls: &Calls,
 ) -> Result<(), Failed>
     requires works { out.old.failed ≡ false }
     requires few { length calls.now ≤ 65536 }
-    ensures { Puts (K.taken sink.old) out.old (answer_lines entries.now refusals.now caller calls.now) result (K.taken sink.new) out.new }
+    requires caller { 0 < caller }
+    requires by_caller { AreByCaller refusals.now }
+    requires covers { (index : ℕ) → runs_of caller index history.now.entries + refusals_of caller index (joined refusals.now) ≡ one_if_there (call_at (calls.now ∷ []) 1 index) }
+    ensures { Puts (K.taken sink.old) out.old (answer_lines history.now.entries (joined refusals.now) caller calls.now) result (K.taken sink.new) out.new }
 {
+    let entries = history.entries();
+    let places = history.places_of(caller);
+    let refused = refusals_of(refusals, caller);
+    let mut told = 0;
+    let mut passed = 0;
     'operations: for i in 0..calls.len() {
-        put_answer_line(out, sink, entries, refusals, caller, i as u32 + 1)?;
+        let index = i as u32 + 1;
+        let answer = next_answer(entries, places, told, index);
+        let refusal = next_refusal(refused, passed);
+        put_answer_line(out, sink, caller, index, answer, refusal)?;
+        if answer.is_some() {
+            told += 1;
+        } else {
+            passed += 1;
+        }
     }
     Ok(())
 }
@@ -211,15 +238,17 @@ fn put_all_answer_lines<K: Sink>(
     out: &mut Out,
     sink: &mut K,
     files: &[Calls],
-    entries: &[Entry],
-    refusals: &[Refusal],
+    history: &History,
+    refusals: &[Items<Refusal>],
 ) -> Result<(), Failed>
     requires works { out.old.failed ≡ false }
     requires few { AreFew files.now }
-    ensures { Puts (K.taken sink.old) out.old (each_from (answer_lines entries.now refusals.now) 1 files.now) result (K.taken sink.new) out.new }
+    requires by_caller { AreByCaller refusals.now }
+    requires covers { Covers files.now history.now.entries (joined refusals.now) }
+    ensures { Puts (K.taken sink.old) out.old (each_from (answer_lines history.now.entries (joined refusals.now)) 1 files.now) result (K.taken sink.new) out.new }
 {
     'callers: for i in 0..files.len() {
-        put_answer_lines(out, sink, entries, refusals, i as u32 + 1, &files[i])?;
+        put_answer_lines(out, sink, history, refusals, i as u32 + 1, &files[i])?;
     }
     Ok(())
 }
@@ -249,15 +278,17 @@ pub fn put_answers<K: Sink>(
     out: &mut Out,
     sink: &mut K,
     files: &[Calls],
-    entries: &[Entry],
-    refusals: &[Refusal],
+    history: &History,
+    refusals: &[Items<Refusal>],
 ) -> Result<(), Failed>
     requires works { out.old.failed ≡ false }
     requires few { AreFew files.now }
-    ensures { Puts (K.taken sink.old) out.old (answers_part files.now entries.now refusals.now) result (K.taken sink.new) out.new }
+    requires by_caller { AreByCaller refusals.now }
+    requires covers { Covers files.now history.now.entries (joined refusals.now) }
+    ensures { Puts (K.taken sink.old) out.old (answers_part files.now history.now.entries (joined refusals.now)) result (K.taken sink.new) out.new }
 {
     put_answers_head(out, sink, files)?;
-    put_all_answer_lines(out, sink, files, entries, refusals)
+    put_all_answer_lines(out, sink, files, history, refusals)
 }
 
 /// Puts the number of entries, and a line for each.

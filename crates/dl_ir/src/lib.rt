@@ -5,6 +5,7 @@
 mod answers;
 mod calls;
 mod census;
+mod closed;
 mod expressions;
 mod heaps;
 mod modules;
@@ -16,6 +17,7 @@ mod tables;
 
 pub use answers::{Answer, End, Entry, Fault, Refusal};
 pub use calls::{Call, Calls};
+pub use closed::Closed;
 pub use expressions::{Cond, Expr, Op, RefSide, Rel};
 pub use heaps::Heap;
 pub use modules::{FieldDecl, KindDecl, LocalDecl, Module, OpDecl, Text, Ty};

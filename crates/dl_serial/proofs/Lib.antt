@@ -5,6 +5,7 @@ mod Lawfulness
 mod Laws
 mod Levels
 mod Lines
+pub mod Listed
 mod Modules
 mod Pools
 mod Returns

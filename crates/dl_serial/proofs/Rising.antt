@@ -1,5 +1,7 @@
 use Rattle.std.proofs.Common.{◌≡◌, ℕ, ◌+◌, ◌<◌, ◌==◌, Bool, true, false, List, [], ◌∷◌, ◌++◌, length, filter, Some, slice_get, refl, sym, ◌∙◌, ap, subst, arith, append_assoc, length-append, zero, suc, nat_lt, add-one}
 use Rattle.std.proofs.lemmas.List.{append-nil}
+use Rattle.std.proofs.lemmas.List.Elements.{All-nil, All-cons}
+use Rattle.std.specs.Prelude.{All}
 use Rattle.std.proofs.lemmas.Bool.Decides.{nat_tests}
 use Rattle.std.proofs.lemmas.Grind.{flat_map-append}
 use Rattle.dl_ir.specs.declared.answers.Entry.{Entry}
@@ -8,7 +10,8 @@ use Rattle.dl_ir.specs.declared.calls.Call.{Call}
 use Rattle.dl_ir.specs.declared.modules.Module.{Module}
 use Rattle.dl_ir.specs.declared.moves.Move.{Move}
 use Rattle.dl_ir.specs.Heap.{Objects}
-use Rattle.dl_shape.specs.Pool.{moves_of, moves_of_entry, moves_from, in_rising_versions, reservation_of, return_of, allocs_at}
+use Rattle.dl_shape.specs.Pool.{moves_of, moves_of_entry, in_rising_versions, reservation_of, return_of, allocs_at}
+use Rattle.dl_shape.proofs.Rising.{Rises, rising_is}
 use Rattle.dl_serial.specs.Rooms.{allocs_of}
 use Rattle.dl_serial.specs.Serving.{Serves, begins, carries_out, refuses, IsEntryOf, move_count, version_made}
 
@@ -17,69 +20,21 @@ abbrev pub IsNumbered : ℕ → List Move → Type 0
 IsNumbered version [] = Unit {0}
 IsNumbered version (move ∷ rest) = (move.version ≡ version) × IsNumbered (version + 1) rest
 
--- the versions of the moves are all below this one
-abbrev pub AreEarlier : ℕ → List Move → Type 0
-AreEarlier version [] = Unit {0}
-AreEarlier version (move ∷ rest) = (move.version < version) × AreEarlier version rest
+-- numbered moves are above an earlier version
+above : (version from : ℕ) (moves : List Move) → version < from → IsNumbered from moves → All (λ (move : Move). version < move.version) moves
+above version from [] below numbered = All-nil (λ (move : Move). version < move.version)
+above version from (move ∷ rest) below numbered =
+    All-cons (λ (later : Move). version < later.version) move rest (omega (arith, numbered.0)) (above version (from + 1) rest (omega arith) numbered.1)
 
-abbrev has_version : ℕ → Move → Bool
-has_version version move = move.version == version
+-- numbered moves stand in rising versions
+pub numbered_rises : (version : ℕ) (moves : List Move) → IsNumbered version moves → Rises (λ (move : Move). move.version) moves
+numbered_rises version [] numbered = tt
+numbered_rises version (move ∷ rest) numbered =
+    (above move.version (version + 1) rest (omega (arith, numbered.0)) numbered.1, numbered_rises (version + 1) rest numbered.1)
 
-eq_of : (a b : ℕ) → a ≡ b → (a == b) ≡ true
-eq_of a b h = grind (arith, nat_tests)
-
-not_eq : (a b : ℕ) → a < b → (a == b) ≡ false
-not_eq a b h = grind (arith, nat_tests)
-
-not_eq_above : (a b : ℕ) → b < a → (a == b) ≡ false
-not_eq_above a b h = grind (arith, nat_tests)
-
-cons_if : (move : Move) (rest : List Move) (version : ℕ) (b : Bool) → has_version version move ≡ b → filter (has_version version) (move ∷ rest) ≡ (elim b [ true ↦ move ∷ filter (has_version version) rest | false ↦ filter (has_version version) rest ])
-cons_if move rest version true h = rw h refl
-cons_if move rest version false h = rw h refl
-
-none_earlier : (version : ℕ) (moves : List Move) → AreEarlier version moves → filter (has_version version) moves ≡ []
-none_earlier version [] h = refl
-none_earlier version (move ∷ rest) h = cons_if move rest version false (not_eq move.version version h.0) ∙ none_earlier version rest h.1
-
-none_later : (version from : ℕ) (moves : List Move) → version < from → IsNumbered from moves → filter (has_version version) moves ≡ []
-none_later version from [] below h = refl
-none_later version from (move ∷ rest) below h =
-    cons_if move rest version false (not_eq_above move.version version (subst (λ v. version < v) (sym h.0) below)) ∙ none_later version (from + 1) rest (omega arith) h.1
-
-filter_append : (version : ℕ) (xs ys : List Move) → filter (has_version version) (xs ++ ys) ≡ filter (has_version version) xs ++ filter (has_version version) ys
-filter_append version [] ys = refl
-filter_append version (x ∷ xs) ys =
-    elim (has_version version x) as (λ b. has_version version x ≡ b → filter (has_version version) (x ∷ (xs ++ ys)) ≡ filter (has_version version) (x ∷ xs) ++ filter (has_version version) ys) [
-      | true ↦ λ h. cons_if x (xs ++ ys) version true h ∙ ap (λ l. x ∷ l) (filter_append version xs ys) ∙ ap (λ l. l ++ filter (has_version version) ys) (sym (cons_if x xs version true h))
-      | false ↦ λ h. cons_if x (xs ++ ys) version false h ∙ filter_append version xs ys ∙ ap (λ l. l ++ filter (has_version version) ys) (sym (cons_if x xs version false h))
-    ] refl
-
-earlier_step : (version : ℕ) (moves : List Move) → AreEarlier version moves → AreEarlier (version + 1) moves
-earlier_step version [] h = tt
-earlier_step version (move ∷ rest) h = (omega (arith, h.0), earlier_step version rest h.1)
-
-earlier_push : (version : ℕ) (moves : List Move) (move : Move) → AreEarlier version moves → move.version ≡ version → AreEarlier (version + 1) (moves ++ move ∷ [])
-earlier_push version [] move h is = (omega (arith, is), tt)
-earlier_push version (first ∷ rest) move h is = (omega (arith, h.0), earlier_push version rest move h.1 is)
-
--- behind earlier moves, moves that are numbered are found one version after another
-found : (version : ℕ) (before moves : List Move) → AreEarlier version before → IsNumbered version moves → moves_from (length moves) version (before ++ moves) ≡ moves
-found version before [] early numbered = refl
-found version before (move ∷ rest) early numbered =
-    let here : filter (has_version version) (before ++ move ∷ rest) ≡ move ∷ [] =
-    filter_append version before (move ∷ rest)
-    ∙ ap (λ l. l ++ filter (has_version version) (move ∷ rest)) (none_earlier version before early)
-    ∙ cons_if move rest version true (eq_of move.version version numbered.0)
-    ∙ ap (λ l. move ∷ l) (none_later version (version + 1) rest (omega arith) numbered.1) in
-    let there : moves_from (length rest) (version + 1) ((before ++ move ∷ []) ++ rest) ≡ rest =
-    found (version + 1) (before ++ move ∷ []) rest (earlier_push version before move early numbered.0) numbered.1 in
-    ap (λ l. l ++ moves_from (length rest) (version + 1) (before ++ move ∷ rest)) here
-    ∙ ap (λ l. move ∷ l) (ap (λ l. moves_from (length rest) (version + 1) l) (sym (append_assoc before (move ∷ []) rest)) ∙ there)
-
--- moves that are numbered from 1 on stand in rising versions
+-- so they stay as they are
 pub numbered_rise : (moves : List Move) → IsNumbered 1 moves → in_rising_versions moves ≡ moves
-numbered_rise moves numbered = found 1 [] moves tt numbered
+numbered_rise moves numbered = rising_is (λ (move : Move). move.version) moves (numbered_rises 1 moves numbered)
 
 numbered_append : (version : ℕ) (xs ys : List Move) → IsNumbered version xs → IsNumbered (version + length xs) ys → IsNumbered version (xs ++ ys)
 numbered_append version [] ys h g = subst (λ v. IsNumbered v ys) (omega arith) g

@@ -1,4 +1,5 @@
 pub mod Forest
 mod Looks
 pub mod Order
+pub mod Rising
 mod Sealing

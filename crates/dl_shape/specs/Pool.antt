@@ -11,6 +11,7 @@ use Rattle.dl_ir.specs.declared.answers.Refusal.{Refusal}
 use Rattle.dl_ir.specs.Heap.{Objects, hidden_count}
 use Rattle.dl_ir.specs.Cover.{call_at}
 use Rattle.dl_shape.specs.Replay.{after_call}
+use Rattle.dl_shape.specs.Rising.{in_rising}
 
 -- the number of objects that the operation of a caller with this index may make
 abbrev pub allocs_at : Module → List (List Call) → ℕ → ℕ → ℕ
@@ -33,14 +34,9 @@ moves_of_entry source files entry = reservation_of entry (allocs_at source files
 abbrev pub moves_of : Module → List (List Call) → List Entry → List Move
 moves_of source files history = flat_map (moves_of_entry source files) history
 
--- the moves of so many versions from a version on, in rising versions
-abbrev pub moves_from : ℕ → ℕ → List Move → List Move
-moves_from zero version moves = []
-moves_from (suc count) version moves = filter (λ (move : Move). move.version == version) moves ++ moves_from count (version + 1) moves
-
--- the moves in rising versions; where the pool is lawful, each stands there once
+-- the moves in rising versions
 abbrev pub in_rising_versions : List Move → List Move
-in_rising_versions moves = moves_from (length moves) 1 moves
+in_rising_versions moves = in_rising (λ (move : Move). move.version) moves
 
 -- the versions of an entry's moves
 abbrev pub versions_of : Module → List (List Call) → Entry → List ℕ

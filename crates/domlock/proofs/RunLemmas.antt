@@ -1,7 +1,19 @@
-use Rattle.std.proofs.Common.{◌≡◌, List, [], ◌∷◌, length, get_or, sym, ap, arith}
+use Rattle.std.proofs.Common.{◌≡◌, ◌+◌, ℕ, zero, suc, Some, List, [], ◌∷◌, length, get_or, sym, ap, subst, arith}
+use Rattle.std.specs.Prelude.{All}
+use Rattle.std.specs.List.Sorted.{IsNonDecreasingBy}
+use Rattle.dl_ir.specs.declared.answers.Refusal.{Refusal}
+use Rattle.dl_history.specs.Histories.{AreByCaller}
 
 -- a list of one element
 pub one_element : {A : Type 0} (xs : List A) (x : A) → length xs ≡ 1 → x ≡ get_or xs 0 x → xs ≡ x ∷ []
 one_element [] x one is = absurd (omega arith)
 one_element (y ∷ []) x one is = ap (λ z. z ∷ []) (sym is)
 one_element (y ∷ z ∷ rest) x one is = absurd (omega arith)
+
+-- one list of the refusals of caller 1, in order of index
+pub one_by_caller : (rs : List Refusal) → All (λ (r : Refusal). r.caller ≡ 1) rs → IsNonDecreasingBy (λ (r : Refusal). r.index) rs → AreByCaller (rs ∷ [])
+one_by_caller rs of_it up zero list there = subst (λ l. All (λ (r : Refusal). r.caller ≡ 1) l × IsNonDecreasingBy (λ (r : Refusal). r.index) l) (same there) (of_it, up)
+  where
+    same : {A : Type 0} {x y : A} → Some x ≡ Some y → x ≡ y
+    same there = cc
+one_by_caller rs of_it up (suc at) list there = absurd (cc)

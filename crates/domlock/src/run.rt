@@ -1,27 +1,29 @@
-ghost use Rattle.std.specs.Prelude.{◌≡◌, ◌≤◌, ◌+◌, All, IfOk, length};
+ghost use Rattle.std.specs.Prelude.{◌≡◌, ◌≤◌, ◌<◌, ◌^◌, ◌+◌, ◌∷◌, [], All, IfOk, length};
 ghost use Rattle.dl_ir.specs.CallForms.{AreCallsOf};
 ghost use Rattle.dl_ir.specs.Checked.{IsChecked};
+ghost use Rattle.dl_ir.specs.Cover.{Covers};
 ghost use Rattle.dl_ir.specs.Heap.{start_objects};
 ghost use Rattle.dl_shape.specs.Pool.{moves_of, in_rising_versions};
 ghost use Rattle.dl_shape.specs.Replay.{replayed};
+ghost use Rattle.dl_history.specs.Histories.{joined, AreByCaller};
 ghost use Rattle.domlock.specs.Promise.{IsRun, Prints, report_of};
 
 use crate::loading::Input;
 use crate::status::Status;
-use dl_history::{History, write_report};
+use dl_history::{History, MergeRoom, merge, write_report};
 use dl_io::{Failed, Sink};
-use dl_ir::{Heap, Refusal};
-use dl_serial::run_calls;
+use dl_ir::{Closed, Heap, Refusal};
+use dl_serial::{Served, run_calls};
 use dl_text::Out;
 use sqlite_items::Items;
 use std::alloc::{AllocError, Global};
 
-/// What running the calls of a command came to.
+/// What running the calls of a command came to: the history, the refusals by caller and index, and what the run left.
 #[derive(Drop)]
 pub struct Run {
     pub history: History,
     pub refusals: Items<Refusal>,
-    pub heap: Heap,
+    pub closed: Closed,
 }
 
 /// Runs the calls of one file, one after another, from the start heap of their module, with so many hidden objects at a
@@ -32,16 +34,38 @@ pub fn run_input(alloc: Global, input: &Input, places: u32) -> Result<Run, Alloc
     requires one { length input.now.all.items ≡ 1 }
     requires calls { All (AreCallsOf input.now.source) input.now.all.items }
     ensures run { IfOk result (λ run. IsRun input.now.source input.now.all.items places run.history.entries run.refusals) }
-    ensures heap { IfOk result (λ run. run.heap.objects ≡ replayed input.now.source input.now.all.items (start_objects input.now.source) run.history.entries) }
+    ensures heap { IfOk result (λ run. run.closed.heap.objects ≡ replayed input.now.source input.now.all.items (start_objects input.now.source) run.history.entries) }
     ensures moves { IfOk result (λ run. run.history.moves ≡ in_rising_versions (moves_of input.now.source input.now.all.items run.history.entries)) }
+    ensures refusals { IfOk result (λ run. (joined run.closed.refusals ≡ run.refusals) × AreByCaller run.closed.refusals) }
 {
     let mut heap = Heap::start(alloc, &input.source, places)?;
     let served = run_calls(alloc, &input.source, &mut heap, places, 1, &input.all[0])?;
-    let history = History::new(alloc, &input.source, input.all.as_slice(), served.entries)?;
+    let room = MergeRoom::new(alloc, served.entries.len() as u32)?;
+    let refusals = Items::from_slice(alloc, served.refusals.as_slice())?;
+    let closed = close(alloc, heap, served)?;
+    let history = merge(&input.source, input.all.as_slice(), &closed, room);
     Ok(Run {
         history,
-        refusals: served.refusals,
+        refusals,
+        closed,
+    })
+}
+
+// What a run of one caller left.
+fn close(alloc: Global, heap: Heap, served: Served) -> Result<Closed, AllocError>
+    ensures heap { IfOk result (λ closed. closed.heap ≡ heap) }
+    ensures entries { IfOk result (λ closed. closed.entries ≡ served.entries ∷ []) }
+    ensures refusals { IfOk result (λ closed. closed.refusals ≡ served.refusals ∷ []) }
+{
+    let mut entries = Items::new(alloc);
+    entries.push(served.entries)?;
+    let mut refusals = Items::new(alloc);
+    refusals.push(served.refusals)?;
+    Ok(Closed {
         heap,
+        entries,
+        refusals,
+        free: served.free,
     })
 }
 
@@ -49,8 +73,10 @@ pub fn run_input(alloc: Global, input: &Input, places: u32) -> Result<Run, Alloc
 pub fn write_run<K: Sink>(input: &Input, run: &Run, sink: &mut K) -> Status
     requires few { length input.now.all.items ≤ 64 }
     requires calls { All (AreCallsOf input.now.source) input.now.all.items }
-    requires heap { run.now.heap.objects ≡ replayed input.now.source input.now.all.items (start_objects input.now.source) run.now.history.entries }
+    requires covers { Covers input.now.all.items run.now.history.entries run.now.refusals }
+    requires heap { run.now.closed.heap.objects ≡ replayed input.now.source input.now.all.items (start_objects input.now.source) run.now.history.entries }
     requires moves { run.now.history.moves ≡ in_rising_versions (moves_of input.now.source input.now.all.items run.now.history.entries) }
+    requires refusals { (joined run.now.closed.refusals ≡ run.now.refusals) × AreByCaller run.now.closed.refusals }
     ensures { Prints result (report_of input.now.source input.now.all.items run.now.history.entries run.now.refusals) (K.taken sink.old) (K.taken sink.new) }
 {
     let mut out = Out::new();
@@ -58,8 +84,7 @@ pub fn write_run<K: Sink>(input: &Input, run: &Run, sink: &mut K) -> Status
         &input.source,
         input.all.as_slice(),
         &run.history,
-        run.refusals.as_slice(),
-        &run.heap,
+        &run.closed,
         &mut out,
         sink,
     ) {

@@ -56,7 +56,7 @@ fn serial_adds_twice(rt: HostRuntime) -> Result<(), Fail> {
     )?;
     assert_eq!(rt; outcome.status, Status::Done);
     assert_eq!(rt; sink.bytes(), TWICE);
-    assert_eq!(rt; outcome.history.entries.len(), 2);
+    assert_eq!(rt; outcome.history.entries().len(), 2);
     assert_eq!(rt; outcome.refusals.len(), 0);
     Ok(())
 }
@@ -449,7 +449,7 @@ fn a_sink_that_fails_keeps_the_history(rt: HostRuntime) -> Result<(), Fail> {
     assert_eq!(rt; outcome.status, Status::WriteFault);
     assert_eq!(rt; exit_code(&outcome.status), 6);
     assert_eq!(rt; sink.bytes(), b"domlock report 1\nans".as_slice());
-    assert_eq!(rt; outcome.history.entries.len(), 2);
+    assert_eq!(rt; outcome.history.entries().len(), 2);
     Ok(())
 }
 

@@ -7,8 +7,8 @@ returns-in_err-put_dotted g c = puts_more _ c.from_residual.ensures.0 (puts_more
 pub returns-in_err-put : goal.returns-in_err-put
 returns-in_err-put g c = puts_more _ c.from_residual-in_err-put.ensures.0 (puts_more _ c.from_residual-in_err-put.ensures.0 (passes_fails c.from_residual-in_err-put.ensures.0 c.in_ok-put_dotted.ensures.ok c.in_err-put.ensures))
 
-pub returns-in_err-put_outcome : goal.returns-in_err-put_outcome
-returns-in_err-put_outcome g c = puts_more _ c.from_residual-in_err-put_outcome.ensures.0 (passes_fails c.from_residual-in_err-put_outcome.ensures.0 (passes_both c.in_ok-put_dotted.ensures.ok c.in_ok-put.ensures.ok) c.in_err-put_outcome.ensures)
+pub returns-in_err-put_told : goal.returns-in_err-put_told
+returns-in_err-put_told g c = puts_more _ c.from_residual-in_err-put_told.ensures.0 (passes_fails c.from_residual-in_err-put_told.ensures.0 (passes_both c.in_ok-put_dotted.ensures.ok c.in_ok-put.ensures.ok) c.in_err-put_told.ensures)
 
 pub returns : goal.returns
-returns g c = puts_both (passes_both (passes_both c.in_ok-put_dotted.ensures.ok c.in_ok-put.ensures.ok) c.in_ok-put_outcome.ensures.ok) c.put-2.ensures
+returns g c = puts_both (passes_both (passes_both c.in_ok-put_dotted.ensures.ok c.in_ok-put.ensures.ok) c.in_ok-put_told.ensures.ok) c.put-2.ensures

@@ -19,5 +19,5 @@ pub returns : goal.returns
 returns g c =
     let p1 = c.in_ok-put.ensures.ok in
     let p2 = c.in_ok-put_answers.ensures.ok in
-    let q = c.put_history.ensures in
+    let q = c.put_history_of.ensures in
     search (rules, passes_both, puts_both)
