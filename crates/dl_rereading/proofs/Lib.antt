@@ -1,0 +1,12 @@
+mod Declarations
+mod Equations
+mod Expressions
+mod From
+mod Lexemes
+mod Modules
+mod Prints
+mod Reread
+mod SameText
+mod Statements
+mod Tokens
+mod TokensOfModules
