@@ -11,10 +11,10 @@ use std::alloc::Global;
 
 /// What a module declares.
 #[derive(Debug, Drop)]
-pub(crate) struct Declared {
-    pub(crate) version: u32,
-    pub(crate) kinds: Items<TreeKind>,
-    pub(crate) ops: Items<TreeOp>,
+pub struct Declared {
+    pub version: u32,
+    pub kinds: Items<TreeKind>,
+    pub ops: Items<TreeOp>,
 }
 
 /// The kinds so far, and the number of their roots.

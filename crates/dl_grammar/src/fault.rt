@@ -20,7 +20,7 @@ pub enum Which {
 
 /// A limit of module texts.
 #[derive(Clone, Copy, Debug, PartialEq, Eq)]
-pub(crate) enum Bound {
+pub enum Bound {
     /// The levels of blocks, brackets and minus signs.
     Levels,
     Limit(Which),
@@ -28,7 +28,7 @@ pub(crate) enum Bound {
 
 /// Why reading stops, at the token where it stands.
 #[derive(Clone, Copy, Debug, PartialEq, Eq)]
-pub(crate) enum Fault {
+pub enum Fault {
     Expected,
     Passed(Bound),
     Memory,

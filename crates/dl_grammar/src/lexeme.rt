@@ -2,7 +2,7 @@ use sqlite_items::Items;
 
 /// A reserved word or a symbol.
 #[derive(Clone, Copy, Debug, PartialEq, Eq)]
-pub(crate) enum Fixed {
+pub enum Fixed {
     Domlock,
     Root,
     Node,
@@ -39,7 +39,7 @@ pub(crate) enum Fixed {
 
 /// What a token says to the grammar.
 #[derive(Debug, Drop)]
-pub(crate) enum Lexis {
+pub enum Lexis {
     Fixed(Fixed),
     /// A word that is not reserved.
     Name(Items<u8>),
@@ -51,7 +51,7 @@ pub(crate) enum Lexis {
 
 /// A token as the grammar sees it, with its line.
 #[derive(Debug, Drop)]
-pub(crate) struct Lexeme {
-    pub(crate) lexis: Lexis,
-    pub(crate) line: u32,
+pub struct Lexeme {
+    pub lexis: Lexis,
+    pub line: u32,
 }

@@ -14,7 +14,9 @@ mod statements;
 mod tests;
 mod tree;
 
-pub use fault::{SyntaxFault, Which};
+pub use declarations::Declared;
+pub use fault::{Bound, Fault, SyntaxFault, Which};
+pub use lexeme::{Fixed, Lexeme, Lexis};
 pub use module::{one_module, read_module};
 pub use tree::{
     Rhs, Side, Tree, TreeBlock, TreeCond, TreeExpr, TreeField, TreeKind, TreeOp, TreeStmt, What,

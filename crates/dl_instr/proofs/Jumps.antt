@@ -1,13 +1,13 @@
-use Rattle.std.proofs.Common.{◌≡◌, ℕ, ◌+◌, ◌<◌, ◌≤◌, false, true, List, [], ◌∷◌, ◌++◌, length, map, All, slice_index_or, refl, sym, subst, arith, length-append}
+use Rattle.std.proofs.Common.{◌≡◌, ℕ, ◌+◌, ◌≤◌, false, true, List, [], ◌∷◌, ◌++◌, length, map, All, slice_index_or, sym, subst, arith, length-append}
 use Rattle.std.proofs.lemmas.List.Elements.{All-nil, All-cons, All-append, All-weaker, All-map}
 use Rattle.dl_ir.specs.declared.expressions.Cond.{Cond}
 use Rattle.dl_ir.specs.declared.modules.Module.{Module}
 use Rattle.dl_ir.specs.declared.modules.OpDecl.{OpDecl}
-use Rattle.dl_ir.specs.declared.statements.Stmt.{Stmt, Stmt-F, roll-Stmt}
-use Rattle.dl_ir.specs.declared.statements.Stmt.TheFolds.{fold-Stmt, fold-roll-Stmt, ind-Stmt, map-Stmt}
+use Rattle.dl_ir.specs.declared.statements.Stmt.{Stmt, Stmt-F}
+use Rattle.dl_ir.specs.declared.statements.Stmt.TheFolds.{fold-roll-Stmt, ind-Stmt, map-Stmt}
 use Rattle.dl_instr.specs.declared.steps.Step.{Step}
 use Rattle.dl_instr.specs.declared.steps.Step.TheVariants.{Test, Jump}
-use Rattle.dl_instr.specs.Code.{Placed, in_row, if_code, if_else_code, while_code, tested, skipped, steps_of, stmt_code, block_code, op_code, code}
+use Rattle.dl_instr.specs.Code.{Placed, in_row, if_code, if_else_code, while_code, steps_of, stmt_code, block_code, op_code, code}
 use Rattle.dl_instr.specs.Jumps.{GoesBelow, JumpsLand}
 
 -- what goes on below a place goes on below any later one
