@@ -5,6 +5,8 @@
 mod code;
 mod conditions;
 mod copies;
+#[cfg(test)]
+mod drop_tests;
 mod drops;
 mod expressions;
 mod generator;
@@ -26,4 +28,5 @@ pub use drops::codes_of_modules;
 pub use generator::instrument;
 pub use laws::jumps_land;
 pub use listing::print_code;
+pub use matching::is_code_of;
 pub use steps::{Content, Origin, Step, Steps};

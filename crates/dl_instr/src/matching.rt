@@ -333,13 +333,13 @@ fn is_matched(op: &OpDecl, count: usize, steps: &[Step]) -> bool
 
 /// Whether a code is one of a module: its plain code, or that code with steps added that drop references not used again. Takes no
 /// memory; the time grows with about the fourth power of the length of the longest operation.
-pub fn is_code_of(module: &Module, code: &Code) -> bool
-    ensures { MatchBool result (IsCodeOf «module».now code.now) (IsCodeOf «module».now code.now → ⊥) }
+pub fn is_code_of(source: &Module, code: &Code) -> bool
+    ensures { IsTrue result ↔ IsCodeOf source.now code.now }
 {
-    if !same_module(&code.source, module) {
+    if !same_module(&code.source, source) {
         return false;
     }
-    let ops = module.ops.as_slice();
+    let ops = source.ops.as_slice();
     if code.ops.len() != ops.len() {
         return false;
     }

@@ -1,3 +1,5 @@
 mod Apart
 mod Neighbours
+mod Parts
 mod Scanning
+mod Steps

@@ -1,2 +1,4 @@
 pub mod Canonical
+pub mod Levels
+pub mod Operands
 pub mod Tokens

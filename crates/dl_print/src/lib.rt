@@ -2,6 +2,15 @@
 //! tells its form.
 #![tactic(auto)]
 
+mod declarations;
+mod expressions;
 mod laws;
+mod module;
+mod operands;
+mod statements;
+#[cfg(test)]
+mod tests;
+mod words;
 
 pub use laws::pieces_are_tokens;
+pub use module::print_module;

@@ -27,9 +27,11 @@ returns-then-not-jump_is_moved c =
 pub loop-d-preserved : goal.loop-d-preserved
 loop-d-preserved c =
     let near = c.in-Some.ensures in
-    let below = near.below in
-    (matched_more c.args.op.now c.args.steps.now c.loop-d.d (c.args.count - 1 - c.loop-d.d) c.loop-d.next (omega arith) c.in-Some.x c.loop-d.invariant.0 near c.if-not-all_added.ensures
-      c.if-not-jump_is_moved.ensures c.if-not-ends_right.ensures, omega (arith, below))
+    let below = near.below in (
+      matched_more c.args.op.now c.args.steps.now c.loop-d.d (c.args.count - 1 - c.loop-d.d) c.loop-d.next (omega arith) c.in-Some.x c.loop-d.invariant.0 near c.if-not-all_added.ensures
+          c.if-not-jump_is_moved.ensures c.if-not-ends_right.ensures,
+      omega (arith, below),
+    )
 
 pub returns : goal.returns
 returns c = all_matched c.args.op.now c.args.steps.now c.loop-d.d c.loop-d.next c.all_added-2.result (omega arith) c.loop-d.invariant.0 c.all_added-2.ensures

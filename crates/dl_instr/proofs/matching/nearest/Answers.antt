@@ -12,12 +12,15 @@ returns-then-may_stand c = record {
 }
 
 pub loop-y-preserved : goal.loop-y-preserved
-loop-y-preserved c = (omega arith, λ k from less fits. elim (cases_lt k c.loop-y.y) [
+loop-y-preserved c = (
+  omega arith,
+  λ k from less fits. elim (cases_lt k c.loop-y.y) [
     | inl before ↦
-      let same : k ≡ c.loop-y.y - 1 = omega (arith, from, before) in
-      c.if-may_stand.ensures (subst (λ n. Fits (op_code c.args.op.now) c.args.steps.now c.args.i n) same fits)
+        let same : k ≡ c.loop-y.y - 1 = omega (arith, from, before) in
+        c.if-may_stand.ensures (subst (λ n. Fits (op_code c.args.op.now) c.args.steps.now c.args.i n) same fits)
     | inr behind ↦ c.loop-y.invariant.1 k behind less fits
-  ])
+  ],
+)
 
 pub returns : goal.returns
 returns c k less fits = c.loop-y.invariant.1 k (omega arith) less fits

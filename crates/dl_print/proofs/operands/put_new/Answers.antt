@@ -1,0 +1,14 @@
+use Rattle.std.proofs.Common.{[], ◌∷◌}
+use Rattle.dl_grammar.specs.declared.lexeme.Fixed.TheVariants as f
+use Rattle.dl_print.specs.Canonical.{Word, Name, Space}
+use Rattle.dl_print.proofs.Steps.{then_put, stop_put}
+use Rattle.dl_print.proofs.operands.put_new.Goals as goal
+
+pub returns-in_err-put : goal.returns-in_err-put
+returns-in_err-put g c =
+    stop_put (Word f.New ∷ Space ∷ []) (Name c.args.kind.now.text ∷ []) c.from_residual.ensures.0 c.in_err-put.ensures
+
+pub returns : goal.returns
+returns g c =
+    then_put (Word f.New ∷ Space ∷ []) (Name c.args.kind.now.text ∷ []) c.in_ok-put.ensures.ok
+    (c.put_name.ensures)
