@@ -1,5 +1,5 @@
 -- What the calls of a checked module do: each ends in exactly one way, and leaves a heap of the module.
-use Rattle.std.specs.Prelude.{◌≡◌, ◌+◌, ◌<◌, ◌≤◌, ℕ, ℤ, Option, Some, List, [], ◌∷◌, slice_get, All}
+use Rattle.std.specs.Prelude.{◌≡◌, ◌+◌, ◌≤◌, ℕ, ℤ, Option, Some, List, [], ◌∷◌, slice_get, All}
 use Rattle.dl_ir.specs.declared.answers.End.{End}
 use Rattle.dl_ir.specs.declared.answers.Entry.{Entry}
 use Rattle.dl_ir.specs.declared.calls.Call.{Call}
@@ -29,7 +29,7 @@ begun op arguments h turns = record { locals = first_locals op arguments; object
 -- below its own, whatever the turns
 abbrev pub OperationsHaveOneOutcome : Type 0
 OperationsHaveOneOutcome = (source : Module) (number : ℕ) (op : OpDecl) (arguments : List ℤ) (h : Objects) (ticket turns : ℕ) → IsChecked source
-    → slice_get source.ops number ≡ Some op → AllFit source op.params arguments → IsHeapOf source h → 0 < ticket → HasTicketsBelow ticket h
+    → slice_get source.ops number ≡ Some op → AllFit source op.params arguments → IsHeapOf source h → HasTicketsBelow ticket h
     → HasOneOutcome (context_of source ticket op) (types_of op) op.body (begun op arguments h turns)
 
 -- what a call gives, is what the outcome of its operation gives
@@ -40,8 +40,8 @@ CallsGiveTheOutcome = (source : Module) (h : Objects) (ticket : ℕ) (call : Cal
 
 -- a call leaves a heap of the module, in which no ticket is above its own
 abbrev pub CallsLeaveHeaps : Type 0
-CallsLeaveHeaps = (source : Module) (h : Objects) (ticket : ℕ) (call : Call) → IsChecked source → IsCallOf source call → IsHeapOf source h → 0 < ticket
-    → HasTicketsBelow ticket h → IsHeapOf source (operated source h ticket call).objects × HasTicketsBelow (ticket + 1) (operated source h ticket call).objects
+CallsLeaveHeaps = (source : Module) (h : Objects) (ticket : ℕ) (call : Call) → IsChecked source → IsCallOf source call → IsHeapOf source h → HasTicketsBelow ticket h
+    → IsHeapOf source (operated source h ticket call).objects × HasTicketsBelow (ticket + 1) (operated source h ticket call).objects
 
 -- each call of the files is one of the module
 abbrev pub AreFilesOf : Module → List (List Call) → Type 0
@@ -55,7 +55,7 @@ RisesFrom ticket (entry ∷ rest) = (ticket ≤ entry.ticket) × RisesFrom (entr
 -- the replay of a history whose tickets rise leaves a heap of the module
 abbrev pub ReplaysLeaveHeaps : Type 0
 ReplaysLeaveHeaps = (source : Module) (files : List (List Call)) (ticket : ℕ) (h : Objects) (history : List Entry) → IsChecked source → AreFilesOf source files
-    → IsHeapOf source h → 0 < ticket → HasTicketsBelow ticket h → RisesFrom ticket history → IsHeapOf source (replayed source files h history)
+    → IsHeapOf source h → HasTicketsBelow ticket h → RisesFrom ticket history → IsHeapOf source (replayed source files h history)
 
 -- and so does that of a legal history, whatever the heap of the module is from which it goes
 abbrev pub LegalReplaysLeaveHeaps : Type 0

@@ -1,5 +1,5 @@
 -- Calls leave a heap of their module.
-use Rattle.std.proofs.Common.{◌≡◌, ℕ, ◌+◌, ◌<◌, [], ◌∷◌, ◌++◌, List, length, sym, ap, subst, Result, Ok, Err, All, arith}
+use Rattle.std.proofs.Common.{◌≡◌, ℕ, ◌+◌, [], ◌∷◌, ◌++◌, List, length, sym, ap, subst, Result, Ok, Err, All, arith}
 use Rattle.std.specs.Prelude.{OnOk}
 use Rattle.std.proofs.lemmas.List.Elements.{All-get_or}
 use Rattle.std.proofs.lemmas.Option.{slice_get_within, get_or_from_slice_get}
@@ -24,13 +24,13 @@ one_more [] entry = omega arith
 one_more (e ∷ entries) entry = omega (arith, one_more entries entry)
 
 -- so many calls leave a heap of the module, in which no ticket is above the last
-pub serves_heap : (source : Module) (places first : ℕ) (start : Objects) (calls : List Call) → IsChecked source → All (IsCallOf source) calls → IsHeapOf source start → 0 < first → HasTicketsBelow first start
+pub serves_heap : (source : Module) (places first : ℕ) (start : Objects) (calls : List Call) → IsChecked source → All (IsCallOf source) calls → IsHeapOf source start → HasTicketsBelow first start
     → {count version : ℕ} {entries : List Entry} {refusals : List Refusal} {heap : Objects} → Serves source places first start calls count entries refusals heap version
     → IsHeapOf source heap × HasTicketsBelow (first + length entries) heap
-serves_heap source places first start calls checked all heap positive below begins = (heap, λ q p there. let early = below q p there in omega (arith, early))
-serves_heap source places first start calls checked all heap positive below (carries_out {entries = entries} {heap = before} call entry served called need is) =
-    let old = serves_heap source places first start calls checked all heap positive below served in
+serves_heap source places first start calls checked all heap below begins = (heap, λ q p there. let early = below q p there in omega (arith, early))
+serves_heap source places first start calls checked all heap below (carries_out {entries = entries} {heap = before} call entry served called need is) =
+    let old = serves_heap source places first start calls checked all heap below served in
     let of_module = subst (IsCallOf source) (get_or_from_slice_get calls _ call call called) (All-get_or (IsCallOf source) calls _ call (slice_get_within calls _ call called) all) in
-    let left = calls_leave_heaps source before (first + length entries) call checked of_module old.0 (omega (arith, positive)) old.1 in
+    let left = calls_leave_heaps source before (first + length entries) call checked of_module old.0 old.1 in
     (left.0, λ q p there. let early = left.1 q p there in omega (arith, early, one_more entries entry))
-serves_heap source places first start calls checked all heap positive below (refuses call refusal served called short is) = serves_heap source places first start calls checked all heap positive below served
+serves_heap source places first start calls checked all heap below (refuses call refusal served called short is) = serves_heap source places first start calls checked all heap below served

@@ -29,7 +29,6 @@ pub fn run_op(
     requires checked { IsChecked source.now }
     requires of_module { IsCallOf source.now call.now }
     requires heap { IsHeapOf source.now heap.old.objects }
-    requires ticket { 0 < ticket }
     requires below { HasTicketsBelow ticket heap.old.objects }
     requires room { HasRoomFor source.now call.now heap.old }
     ensures answer { IfOk result (λ answer. answer ≡ (operated source.now heap.old.objects ticket call.now).answer) }

@@ -1,5 +1,4 @@
-use Rattle.std.proofs.Common.{rules, ℕ, length, subst, ap, sym, ◌∙◌}
-use Rattle.std.specs.List.{range_with_len}
+use Rattle.std.proofs.Common.{rules, ℕ, subst}
 use Rattle.std.specs.List.Sorted.{IsPermutation}
 use Rattle.std.proofs.lemmas.Fn.{always_returns_same}
 use Rattle.dl_history.specs.Histories.{caller_at, index_at}

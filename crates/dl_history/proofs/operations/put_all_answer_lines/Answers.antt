@@ -1,5 +1,3 @@
-use Rattle.std.proofs.Common.{◌≡◌, ◌+◌, ◌<◌, ℕ, length, get_or, slice_get, Some, sym, ◌∙◌, ap, arith, suc}
-use Rattle.dl_ir.specs.Cover.{call_at, runs_of, refusals_of, one_if_there}
 use Rattle.dl_history.proofs.Loops.{put_fails, put_step, numbered_at}
 use Rattle.dl_history.proofs.Walk.{covers_caller}
 use Rattle.dl_history.specs.Histories.{joined}

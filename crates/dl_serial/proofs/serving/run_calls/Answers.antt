@@ -62,15 +62,15 @@ below_first h first next = subst (λ n. HasTicketsBelow n h) (sym next) (below_n
 
 pub returns-clause-heap : goal.returns-clause-heap
 returns-clause-heap c =
-    (serves_heap c.args.source.now c.args.places c.args.first c.args.heap.now.objects c.args.calls.now c.requires.checked c.requires.of_module.each c.requires.heap (omega (arith, c.requires.next)) (below_first _ _ c.requires.next)
+    (serves_heap c.args.source.now c.args.places c.args.first c.args.heap.now.objects c.args.calls.now c.requires.checked c.requires.of_module.each c.requires.heap (below_first _ _ c.requires.next)
     c.loop-at.invariant.after.serves).0
 
 pub serve-requires-clause-heap : goal.serve-requires-clause-heap
 serve-requires-clause-heap c =
-    (serves_heap c.args.source.now c.args.places c.args.first c.args.heap.now.objects c.args.calls.now c.requires.checked c.requires.of_module.each c.requires.heap (omega (arith, c.requires.next)) (below_first _ _ c.requires.next)
+    (serves_heap c.args.source.now c.args.places c.args.first c.args.heap.now.objects c.args.calls.now c.requires.checked c.requires.of_module.each c.requires.heap (below_first _ _ c.requires.next)
     c.loop-at.invariant.after.serves).0
 
 pub serve-requires-clause-below : goal.serve-requires-clause-below
 serve-requires-clause-below c = subst (λ n. HasTicketsBelow n c.loop-at.heap.objects) (sym c.loop-at.invariant.after.ticket)
-    (serves_heap c.args.source.now c.args.places c.args.first c.args.heap.now.objects c.args.calls.now c.requires.checked c.requires.of_module.each c.requires.heap (omega (arith, c.requires.next)) (below_first _ _ c.requires.next)
+    (serves_heap c.args.source.now c.args.places c.args.first c.args.heap.now.objects c.args.calls.now c.requires.checked c.requires.of_module.each c.requires.heap (below_first _ _ c.requires.next)
     c.loop-at.invariant.after.serves).1
