@@ -1,26 +1,11 @@
 use crate::print_module;
 use dl_grammar::read_module;
 use dl_io::MemSink;
+use dl_modules::{COUNTER, LISTS, SKEW, TREAP};
 use dl_text::Out;
 use std::alloc::Global;
 use std::str;
 use std::test::Fail;
-
-const COUNTER: &[u8] = b"domlock 1
-root CELL 2 { val: int }
-op add(r: CELL, n: int) allocs 0 fuel 0 {
-  var v: int;
-  v = r.val;
-  v = v + n;
-  r.val = v;
-  return v;
-}
-op get(r: CELL) allocs 0 fuel 0 {
-  var v: int;
-  v = r.val;
-  return v;
-}
-";
 
 /// Every construct of the language, with comments and any white space.
 const EVERYTHING: &[u8] = b"domlock 1 node BARE {} # nothing in it
@@ -82,8 +67,11 @@ fn print(alloc: Global, text: &[u8], sink: &mut MemSink) -> Result<(), Fail> {
 
 #[test]
 fn prints_modules(rt: HostRuntime) -> Result<(), Fail> {
-    let table: [(&[u8], &[u8]); 4] = [
+    let table: [(&[u8], &[u8]); 7] = [
         (COUNTER, COUNTER),
+        (SKEW, SKEW),
+        (TREAP, TREAP),
+        (LISTS, LISTS),
         (EVERYTHING, CANONICAL),
         (CANONICAL, CANONICAL),
         (b"domlock 1", b"domlock 1\n"),
