@@ -72,25 +72,13 @@ fn copy_stmt(alloc: Global, original: &Stmt) -> Result<Stmt, AllocError>
         Stmt::Return { e } => Stmt::Return {
             e: copy_expr(alloc, e)?,
         },
-        Stmt::Load { x, p, f } => Stmt::Load {
-            x: *x,
-            p: *p,
-            f: *f,
-        },
-        Stmt::Copy { p, q } => Stmt::Copy { p: *p, q: *q },
-        Stmt::Null { p } => Stmt::Null { p: *p },
-        Stmt::Follow { p, q, f } => Stmt::Follow {
-            p: *p,
-            q: *q,
-            f: *f,
-        },
-        Stmt::New { p, kind } => Stmt::New { p: *p, kind: *kind },
-        Stmt::Link { q, f, p } => Stmt::Link {
-            q: *q,
-            f: *f,
-            p: *p,
-        },
-        Stmt::Cut { q, f } => Stmt::Cut { q: *q, f: *f },
+        &Stmt::Load { x, p, f } => Stmt::Load { x, p, f },
+        &Stmt::Copy { p, q } => Stmt::Copy { p, q },
+        &Stmt::Null { p } => Stmt::Null { p },
+        &Stmt::Follow { p, q, f } => Stmt::Follow { p, q, f },
+        &Stmt::New { p, kind } => Stmt::New { p, kind },
+        &Stmt::Link { q, f, p } => Stmt::Link { q, f, p },
+        &Stmt::Cut { q, f } => Stmt::Cut { q, f },
     })
 }
 
