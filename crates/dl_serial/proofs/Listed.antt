@@ -30,8 +30,8 @@ module _ (source : Module) (places first : ℕ) (start : Objects) (calls : List 
   below (carries_out {entries = es} call e before there fits is) =
       let longer : length (es ++ e ∷ []) ≡ length es + 1 = length-append es (e ∷ []) in
       All-push (λ (d : Entry). d.ticket < first + length (es ++ e ∷ [])) es e
-          (All-weaker (λ (d : Entry). d.ticket < first + length es) (λ (d : Entry). d.ticket < first + length (es ++ e ∷ [])) (λ d under. omega arith) es (below before))
-          (omega (arith, is.ticket))
+      (All-weaker (λ (d : Entry). d.ticket < first + length es) (λ (d : Entry). d.ticket < first + length (es ++ e ∷ [])) (λ d under. omega arith) es (below before))
+      (omega (arith, is.ticket))
   below (refuses call r before there short is) = below before
 
   -- the tickets rise
@@ -40,7 +40,7 @@ module _ (source : Module) (places first : ℕ) (start : Objects) (calls : List 
   serves_tickets begins = tt
   serves_tickets (carries_out {entries = es} call e before there fits is) =
       rises_push (λ (d : Entry). d.ticket) es e (serves_tickets before)
-          (All-weaker (λ (d : Entry). d.ticket < first + length es) (λ (d : Entry). d.ticket < e.ticket) (λ d under. omega (arith, is.ticket)) es (below before))
+      (All-weaker (λ (d : Entry). d.ticket < first + length es) (λ (d : Entry). d.ticket < e.ticket) (λ d under. omega (arith, is.ticket)) es (below before))
   serves_tickets (refuses call r before there short is) = serves_tickets before
 
   -- no two moves have the same version
@@ -63,7 +63,7 @@ module _ (source : Module) (places first : ℕ) (start : Objects) (calls : List 
       All-weaker (λ (r : Refusal). r.index ≤ n) (λ (r : Refusal). r.index ≤ n + 1) (λ r under. omega arith) rs (within before)
   within (refuses {count = n} {refusals = rs} call r before there short is) =
       All-push (λ (d : Refusal). d.index ≤ n + 1) rs r
-          (All-weaker (λ (d : Refusal). d.index ≤ n) (λ (d : Refusal). d.index ≤ n + 1) (λ d under. omega arith) rs (within before)) (omega (arith, is.index))
+      (All-weaker (λ (d : Refusal). d.index ≤ n) (λ (d : Refusal). d.index ≤ n + 1) (λ d under. omega arith) rs (within before)) (omega (arith, is.index))
 
   -- they stand in order of index
   pub serves_in_order : {n version : ℕ} {es : List Entry} {rs : List Refusal} {heap : Objects} → Serves source places first start calls n es rs heap version
@@ -72,4 +72,4 @@ module _ (source : Module) (places first : ℕ) (start : Objects) (calls : List 
   serves_in_order (carries_out call e before there fits is) = serves_in_order before
   serves_in_order (refuses {count = n} {refusals = rs} call r before there short is) =
       IsNonDecreasingBy-push (λ (d : Refusal). d.index) rs r (serves_in_order before)
-          (λ d some. let under = All-get_or (λ (q : Refusal). q.index ≤ n) rs (length rs - 1) d (omega arith) (within before) in omega (arith, is.index))
+      (λ d some. let under = All-get_or (λ (q : Refusal). q.index ≤ n) rs (length rs - 1) d (omega arith) (within before) in omega (arith, is.index))

@@ -80,9 +80,10 @@ module _ {X : Type 0} (key : X → ℕ) where
   pub sorted_rises : (xs : List X) → IsNonDecreasingBy key xs → AreApart key xs → Rises xs
   sorted_rises [] up apart = tt
   sorted_rises (x ∷ rest) up apart =
-      let differ : All (λ y. key x ≡ key y → ⊥) rest = unmap (λ k. key x ≡ k → ⊥) rest (apart_head _ _ apart) in
-      (λ k d within. below_not _ _ (up 0 (suc k) d (omega arith) (omega arith)) (differ k d within),
-        sorted_rises rest (λ i j d le within. up (suc i) (suc j) d (omega arith) (omega arith)) (apart_tail _ _ apart))
+      let differ : All (λ y. key x ≡ key y → ⊥) rest = unmap (λ k. key x ≡ k → ⊥) rest (apart_head _ _ apart) in (
+        λ k d within. below_not _ _ (up 0 (suc k) d (omega arith) (omega arith)) (differ k d within),
+        sorted_rises rest (λ i j d le within. up (suc i) (suc j) d (omega arith) (omega arith)) (apart_tail _ _ apart),
+      )
 
   member_cases : (x y : X) (rest : List X) → Contains (y ∷ rest) x → (y ≡ x) ⊎ Contains rest x
   member_cases x y rest (zero, within, is) = inl is
@@ -98,12 +99,12 @@ module _ {X : Type 0} (key : X → ℕ) where
   same_heads x y xs ys up_x up_y x_in y_in = elim (member_cases x y ys x_in) [
     | inl is ↦ sym is
     | inr later ↦ elim (member_cases y x xs y_in) [
-        | inl is ↦ is
-        | inr after ↦
-            let above : key y < key x = All-contains (λ z. key y < key z) ys x up_y.0 later in
-            let below : key x < key y = All-contains (λ z. key x < key z) xs y up_x.0 after in
-            absurd (omega arith)
-      ]
+      | inl is ↦ is
+      | inr after ↦
+          let above : key y < key x = All-contains (λ z. key y < key z) ys x up_y.0 later in
+          let below : key x < key y = All-contains (λ z. key x < key z) xs y up_x.0 after in
+          absurd (omega arith)
+    ]
   ]
 
   in_rest : (x z : X) (xs ys : List X) → Rises (x ∷ xs) → Contains xs z → Contains (x ∷ ys) z → Contains ys z
@@ -123,8 +124,8 @@ module _ {X : Type 0} (key : X → ℕ) where
       let same : x ≡ y = same_heads x y xs ys up_x up_y (to x (member_head x xs)) (from y (member_head y ys)) in
       let up : Rises (x ∷ ys) = subst (λ z. Rises (z ∷ ys)) (sym same) up_y in
       let rest : xs ≡ ys = rises_same xs ys up_x.1 up_y.1
-          (λ z there. in_rest x z xs ys up_x there (subst (λ w. Contains (w ∷ ys) z) (sym same) (to z (member_tail z x xs there))))
-          (λ z there. in_rest x z ys xs up there (from z (member_tail z y ys there))) in
+      (λ z there. in_rest x z xs ys up_x there (subst (λ w. Contains (w ∷ ys) z) (sym same) (to z (member_tail z x xs there))))
+      (λ z there. in_rest x z ys xs up there (from z (member_tail z y ys there))) in
       ap (λ z. z ∷ xs) same ∙ ap (λ zs. y ∷ zs) rest
 
   -- what a sort by a key leaves of elements with keys of their own
@@ -132,7 +133,7 @@ module _ {X : Type 0} (key : X → ℕ) where
   sorted_is xs ys apart moves up =
       let across : IsPermutation ys (in_rising key xs) = IsPermutation-trans _ _ _ (IsPermutation-sym _ _ moves) (rising_moves xs) in
       rises_same ys (in_rising key xs) (sorted_rises ys up (apart_moves xs ys moves apart)) (rising_rises xs apart)
-          (λ z there. Contains-permutation _ _ z across there) (λ z there. Contains-permutation _ _ z (IsPermutation-sym _ _ across) there)
+      (λ z there. Contains-permutation _ _ z across there) (λ z there. Contains-permutation _ _ z (IsPermutation-sym _ _ across) there)
 
   -- a list in rising keys stays as it is
   pub rising_is : (xs : List X) → Rises xs → in_rising key xs ≡ xs
@@ -156,8 +157,8 @@ module _ {X : Type 0} (key : X → ℕ) where
   rises_apart [] up = λ i j d before within. absurd (omega arith)
   rises_apart (x ∷ rest) up =
       AllPairs-cons (λ a b. a ≢ b) (key x) (map key rest)
-          (All-map (λ b. key x ≢ b) key rest (All-weaker (λ y. key x < key y) (λ y. key x ≢ key y) (λ y below same. omega arith) rest up.0))
-          (rises_apart rest up.1)
+      (All-map (λ b. key x ≢ b) key rest (All-weaker (λ y. key x < key y) (λ y. key x ≢ key y) (λ y below same. omega arith) rest up.0))
+      (rises_apart rest up.1)
 
 module _ {X Y : Type 0} (key : X → ℕ) (f : X → List Y) where
   put_pieces : (x : X) (xs : List X) → IsPermutation (f x ++ flat_map f xs) (flat_map f (put_by key x xs))

@@ -30,7 +30,7 @@ pub merge-history-requires-clause-tickets : goal.merge-history-requires-clause-t
 merge-history-requires-clause-tickets c =
     let list : joined c.in_ok-closed.closed.entries ≡ c.in_ok-served.served.entries = ap joined c.in_ok-closed.ensures.entries ∙ append-nil _ in
     subst (λ es. AreApart (λ (entry : OneEntry). entry.ticket) es) (sym list)
-        (rises_apart (λ (entry : OneEntry). entry.ticket) _ (serves_tickets _ _ _ _ _ c.in_ok-served.ensures.serves.1))
+    (rises_apart (λ (entry : OneEntry). entry.ticket) _ (serves_tickets _ _ _ _ _ c.in_ok-served.ensures.serves.1))
 
 pub merge-history-requires-clause-versions : goal.merge-history-requires-clause-versions
 merge-history-requires-clause-versions c =
@@ -47,7 +47,7 @@ returns-clause-run c =
     let list : joined c.in_ok-closed.closed.entries ≡ c.in_ok-served.served.entries = ap joined c.in_ok-closed.ensures.entries ∙ append-nil _ in
     let same : c.merge-history.result.entries ≡ c.in_ok-served.served.entries
     = c.merge-history.ensures.entries ∙ ap (in_rising (λ (entry : OneEntry). entry.ticket)) list
-        ∙ rising_is (λ (entry : OneEntry). entry.ticket) _ (serves_tickets _ _ _ _ _ c.in_ok-served.ensures.serves.1) in
+    ∙ rising_is (λ (entry : OneEntry). entry.ticket) _ (serves_tickets _ _ _ _ _ c.in_ok-served.ensures.serves.1) in
     let those : c.in_ok-refusals.refusals ≡ c.in_ok-served.served.refusals = c.in_ok-refusals.ensures ∙ c.as_slice.ensures in
     rw (one, same, those) record {
       covers = c.in_ok-served.ensures.covers;
@@ -63,13 +63,14 @@ returns-clause-heap c =
     let list : joined c.in_ok-closed.closed.entries ≡ c.in_ok-served.served.entries = ap joined c.in_ok-closed.ensures.entries ∙ append-nil _ in
     let same : c.merge-history.result.entries ≡ c.in_ok-served.served.entries
     = c.merge-history.ensures.entries ∙ ap (in_rising (λ (entry : OneEntry). entry.ticket)) list
-        ∙ rising_is (λ (entry : OneEntry). entry.ticket) _ (serves_tickets _ _ _ _ _ c.in_ok-served.ensures.serves.1) in
+    ∙ rising_is (λ (entry : OneEntry). entry.ticket) _ (serves_tickets _ _ _ _ _ c.in_ok-served.ensures.serves.1) in
     rw (one, same) (ap (λ (h : View). h.objects) c.in_ok-closed.ensures.heap ∙ sym replay)
 
 pub returns-clause-refusals : goal.returns-clause-refusals
 returns-clause-refusals c =
     let those : c.in_ok-refusals.refusals ≡ c.in_ok-served.served.refusals = c.in_ok-refusals.ensures ∙ c.as_slice.ensures in
     let of_it = serves_caller _ _ _ _ _ c.in_ok-served.ensures.serves.1 in
-    let up = serves_in_order _ _ _ _ _ c.in_ok-served.ensures.serves.1 in
-    (ap joined c.in_ok-closed.ensures.refusals ∙ append-nil _ ∙ sym those,
-      subst AreByCaller (sym c.in_ok-closed.ensures.refusals) (one_by_caller _ of_it up))
+    let up = serves_in_order _ _ _ _ _ c.in_ok-served.ensures.serves.1 in (
+      ap joined c.in_ok-closed.ensures.refusals ∙ append-nil _ ∙ sym those,
+      subst AreByCaller (sym c.in_ok-closed.ensures.refusals) (one_by_caller _ of_it up),
+    )
