@@ -1,8 +1,7 @@
-mod texts;
-
 use crate::{TypeFault, check};
 use dl_grammar::read_module;
 use dl_ir::{Module, Stmt, Ty};
+use dl_modules::{COUNTER, LISTS, SKEW, TREAP};
 use std::alloc::Global;
 use std::test::Fail;
 
@@ -132,7 +131,7 @@ fn faults_of_statements(rt: HostRuntime) -> Result<(), Fail> {
 #[test]
 fn modules_are_checked(rt: HostRuntime) -> Result<(), Fail> {
     let alloc = rt.alloc();
-    for text in [texts::COUNTER, texts::SKEW, texts::TREAP, texts::LISTS] {
+    for text in [COUNTER, SKEW, TREAP, LISTS] {
         assert!(rt; checked(alloc, text)?.is_ok());
     }
     Ok(())
@@ -141,7 +140,7 @@ fn modules_are_checked(rt: HostRuntime) -> Result<(), Fail> {
 #[test]
 fn numbers_go_in_the_order_of_declaration(rt: HostRuntime) -> Result<(), Fail> {
     let alloc = rt.alloc();
-    let source = checked(alloc, texts::SKEW)??;
+    let source = checked(alloc, SKEW)??;
     let Some(root) = source.kinds.get(0) else {
         return Err(Fail::from("no kind"));
     };
