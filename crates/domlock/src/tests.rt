@@ -271,7 +271,7 @@ fn one_place_leaves_no_room(rt: HostRuntime) -> Result<(), Fail> {
     let outcome = call(rt.alloc(), "serial m o --places 1", SKEW, ops, &mut sink)?;
     assert_eq!(rt; outcome.status, Status::Done);
     assert_eq!(rt; sink.bytes(), want);
-    assert_eq!(rt; outcome.history.entries.len(), 3);
+    assert_eq!(rt; outcome.history.entries().len(), 3);
     assert_eq!(rt; outcome.refusals.len(), 1);
     Ok(())
 }
