@@ -52,11 +52,6 @@ each_element line xs i d within =
     let cut : drop i xs ≡ get_or xs i d ∷ drop (i + 1) xs = rw (add-one, drop-cons xs i d) refl in
     ap (flat_map line) cut
 
--- the same, of an element that is known to stand there
-pub each_at : {A : Type 0} (line : A → List ℕ) (xs : List A) (i : ℕ) (x : A) → i < length xs → x ≡ get_or xs i x →
-    flat_map line (drop i xs) ≡ line x ++ flat_map line (drop (i + 1) xs)
-each_at line xs i x within is = each_element line xs i x within ∙ ap (λ y. line y ++ flat_map line (drop (i + 1) xs)) (sym is)
-
 -- no element comes behind the last one
 pub no_element : {A : Type 0} (line : A → List ℕ) (xs : List A) → flat_map line (drop (length xs) xs) ≡ []
 no_element line xs = ap (flat_map line) (drop-length xs)

@@ -117,8 +117,7 @@ fn put_object_lines<K: Sink>(
     requires { out.old.failed ≡ false }
     ensures { Puts (K.taken sink.old) out.old (flat_map (object_line source.now) (finite.entries heap.now.objects)) result (K.taken sink.new) out.new }
 {
-    'objects: for at in 0..heap.len() {
-        let (name, object) = heap.entry_at(at);
+    'objects: for (name, object) in heap.iter() {
         put_object_line(out, sink, source, name, object)?;
     }
     Ok(())

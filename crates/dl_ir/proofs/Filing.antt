@@ -1,7 +1,7 @@
 -- The tables beside the objects: what filing a name, and counting values, make of them.
-use Rattle.std.proofs.Common.{◌≡◌, ◌⊎◌, inl, inr, ℕ, ℤ, ◌+◌, ◌-◌, ◌<◌, ◌≤◌, Bool, true, false, cond, ◌&&◌, List, [], ◌∷◌, ◌++◌, length, get_or, take, refl, sym, ap, subst, ◌∙◌, Option, Some, None, arith}
+use Rattle.std.proofs.Common.{◌≡◌, inl, inr, ℕ, ◌+◌, ◌-◌, ◌<◌, ◌≤◌, Bool, true, false, cond, ◌&&◌, List, [], ◌∷◌, ◌++◌, length, get_or, take, refl, sym, ap, subst, ◌∙◌, Option, Some, None, arith}
 use Rattle.std.specs.Prelude.{is_some, count_by, nat_le, ◌==◌}
-use Rattle.std.specs.Option.{option_map, option_map_or}
+use Rattle.std.specs.Option.{option_map}
 use Rattle.std.specs.Ordering.{eq_by_cmp, is_eq}
 use Rattle.std.specs.FinMap as map
 use Rattle.std.specs.FinMap.{FinMap, len-remove, len-empty, get-empty}
@@ -17,7 +17,7 @@ use Rattle.dl_ir.specs.declared.objects.Obj.{Obj}
 use Rattle.dl_ir.specs.declared.census.Census.{Census}
 use Rattle.dl_ir.specs.Heap.{Objects, name_cmp}
 use Rattle.dl_ir.specs.References.{name_eq, refers_to, target_in}
-use Rattle.dl_ir.specs.Census.{open_at, is_none, is_many, IsFiledAt, HasRooms, IsFiled, IsFiledBut, marked, Changes, AreThere}
+use Rattle.dl_ir.specs.Census.{open_at, is_none, is_many, IsFiledAt, IsFiled, IsFiledBut, marked, Changes, AreThere}
 use Rattle.dl_ir.proofs.NameOrder.{names_total}
 use Rattle.dl_ir.proofs.Lookups.{same_or_not, got_put, got_beside, gone, got_left, has_marked, has_beside}
 use Rattle.dl_ir.proofs.Subsets.{room_for}

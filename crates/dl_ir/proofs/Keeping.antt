@@ -1,5 +1,5 @@
 -- The counts beside the objects are the numbers of fields that refer to them, whatever is done to the heap.
-use Rattle.std.proofs.Common.{◌≡◌, ◌⊎◌, inl, inr, ℕ, zero, suc, pos, not, ◌+◌, ◌-◌, ◌*◌, ◌^◌, ◌<◌, ◌≤◌, Bool, true, false, cond, ◌&&◌, ◌||◌, List, [], ◌∷◌, length, get_or, set, refl, sym, ap, subst, ◌∙◌, Option, Some, None, arith}
+use Rattle.std.proofs.Common.{◌≡◌, inl, inr, ℕ, zero, suc, pos, not, ◌+◌, ◌-◌, ◌*◌, ◌^◌, ◌<◌, ◌≤◌, Bool, true, false, cond, ◌&&◌, ◌||◌, List, [], ◌∷◌, length, set, refl, sym, ap, subst, ◌∙◌, Option, Some, None, arith}
 use Rattle.std.specs.Prelude.{is_some, count_by, sum_by, nat_lt, nat_le, ◌==◌, slice_get, option_and_then, if◌then◌else◌}
 use Rattle.std.specs.Option.{option_map, option_map_or}
 use Rattle.std.specs.Ordering.{eq_by_cmp}
@@ -17,10 +17,10 @@ use Rattle.dl_ir.specs.declared.census.Census.{Census}
 use Rattle.dl_ir.specs.Heap.{Objects, name_cmp, with_field, with_field_of}
 use Rattle.dl_ir.specs.Rows.{Rows}
 use Rattle.dl_ir.specs.References.{refers_to, refs, is_open, is_loose, is_shared, first_name, with_seal, with_seal_of}
-use Rattle.dl_ir.specs.Census.{open_at, is_none, is_many, IsFiledAt, IsFiled, IsFiledBut, Changes, Gains, Loses, AreThere, HasFewFields, IsKept}
+use Rattle.dl_ir.specs.Census.{open_at, is_none, is_many, IsFiled, IsFiledBut, Gains, Loses, AreThere, HasFewFields, IsKept}
 use Rattle.dl_ir.proofs.NameOrder.{names_total, exact_names}
 use Rattle.dl_ir.proofs.Members.{Held, In, get_in, zeros}
-use Rattle.dl_ir.proofs.Totals.{put_back, sum-put, total-remove}
+use Rattle.dl_ir.proofs.Totals.{sum-put, total-remove}
 use Rattle.dl_ir.proofs.Lookups.{same_or_not, got_put, got_beside, gone, got_left}
 use Rattle.dl_ir.proofs.Subsets.{first_is}
 

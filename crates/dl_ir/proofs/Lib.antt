@@ -1,13 +1,14 @@
-mod Counted
 mod Edits
-mod Entries
+mod SortedEntries
 mod Filing
 pub mod Keeping
 pub mod Lookups
 pub mod Members
 pub mod NameOrder
+mod Present
 mod StartHeap
 mod Starts
 mod Search
 mod Subsets
+mod TableEdits
 pub mod Totals

@@ -1,5 +1,5 @@
 -- The entries of a heap, and what a look through them finds.
-use Rattle.std.proofs.Common.{◌≡◌, ℕ, ◌≤◌, Bool, true, false, cond, ◌&&◌, List, [], ◌∷◌, refl, sym, ap, subst, ◌∙◌, T, Some, None, arith, ◌⊎◌, inl, inr}
+use Rattle.std.proofs.Common.{◌≡◌, ℕ, ◌≤◌, Bool, true, false, cond, ◌&&◌, [], ◌∷◌, refl, sym, ap, subst, ◌∙◌, T, Some, None, arith, ◌⊎◌, inl, inr}
 use Rattle.std.specs.Prelude.{find, sum_by}
 use Rattle.std.specs.List.{list_all}
 use Rattle.std.specs.Cmp.{Equal-is}
@@ -14,7 +14,7 @@ use Rattle.dl_ir.specs.declared.names.Name.{Name}
 use Rattle.dl_ir.specs.declared.objects.Obj.{Obj}
 use Rattle.dl_ir.specs.Heap.{Objects, name_cmp}
 use Rattle.dl_ir.proofs.NameOrder.{names_total, exact_names}
-use Rattle.dl_ir.proofs.Entries.{Held as Entered, first_of_both, second_of_both, is_less}
+use Rattle.dl_ir.proofs.SortedEntries.{Held as Entered, first_of_both, second_of_both, is_less}
 
 abbrev pub Held : Type 0
 Held = Entered Obj

@@ -12,7 +12,7 @@ use Rattle.dl_ir.specs.declared.names.Name.{Name}
 use Rattle.dl_ir.specs.Heap.{name_cmp}
 use Rattle.dl_ir.specs.Places.{IsAt, IsGap}
 use Rattle.dl_ir.proofs.NameOrder.{names_total}
-use Rattle.dl_ir.proofs.Entries.{Held, first_of_both, second_of_both, is_less}
+use Rattle.dl_ir.proofs.SortedEntries.{Held, first_of_both, second_of_both, is_less}
 
 -- a name below all is below each
 below_each : {X : Type 0} → (x : Name) (es : Held X) (at : ℕ) (d : Name × X) → T (below_all name_cmp x es) → at < length es → name_cmp x (get_or es at d).0 ≡ Less

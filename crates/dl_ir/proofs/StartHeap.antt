@@ -18,7 +18,7 @@ use Rattle.dl_ir.specs.declared.names.Value.{Value}
 use Rattle.dl_ir.specs.declared.objects.Obj.{Obj}
 use Rattle.dl_ir.specs.Heap.{Objects, name_cmp, root, roots_from, roots_of, blank, blank_fields, blank_object, start_objects, StandInRow, HasRootsAt, HasStart, HasType, HasFields, IsHeapOf}
 use Rattle.dl_ir.proofs.NameOrder.{names_total, exact_names, less_turned}
-use Rattle.dl_ir.proofs.Entries.{Held}
+use Rattle.dl_ir.proofs.SortedEntries.{Held}
 use Rattle.dl_ir.proofs.Starts.{begins, below_root}
 
 -- the name is one of so many roots

@@ -16,7 +16,7 @@ use Rattle.dl_ir.specs.declared.objects.Obj.{Obj}
 use Rattle.dl_ir.specs.Heap.{Objects, name_cmp, root, roots_from, roots_of, blank_object, start_objects, StandInRow, HasRootsAt}
 use Rattle.dl_ir.proofs.NameOrder.{names_total, exact_names}
 use Rattle.dl_ir.specs.Rows.{added}
-use Rattle.dl_ir.proofs.Entries.{Held, yes, first_of_both, second_of_both, is_less}
+use Rattle.dl_ir.proofs.SortedEntries.{Held, yes, first_of_both, second_of_both, is_less}
 use Rattle.dl_ir.proofs.Lookups.{same_or_not, got_put, got_beside}
 use Rattle.dl_ir.proofs.Edits.{made}
 

@@ -1,8 +1,8 @@
 -- A table whose names are all names of another.
-use Rattle.std.proofs.Common.{◌≡◌, ℕ, suc, ◌+◌, ◌<◌, ◌≤◌, Bool, true, false, cond, ◌&&◌, List, [], ◌∷◌, length, map, filter, refl, sym, ap, subst, ◌∙◌, T, Option, Some, None, arith, inl, inr}
+use Rattle.std.proofs.Common.{◌≡◌, suc, ◌+◌, ◌<◌, ◌≤◌, Bool, true, false, cond, ◌&&◌, List, [], ◌∷◌, length, map, refl, sym, ap, subst, ◌∙◌, T, Option, Some, None, arith, inl, inr}
 use Rattle.std.specs.Prelude.{is_some, find, slice_get}
 use Rattle.std.specs.Option.{option_map, option_map_or}
-use Rattle.std.specs.Ordering.{is_lt, is_eq, eq_by_cmp}
+use Rattle.std.specs.Ordering.{is_lt, eq_by_cmp}
 use Rattle.std.specs.FinMap as maps
 use Rattle.std.specs.FinMap.{FinMap, is_sorted, entries_sorted, entries-from_sorted, get-from_sorted, get-entries, same_map, len-entries, len-insert}
 use Rattle.std.specs.FinMap.Entries.{below_all, where_key, is_sorted-where_key, find-where_key}
@@ -11,7 +11,7 @@ use Rattle.dl_ir.specs.declared.names.Name.{Name}
 use Rattle.dl_ir.specs.declared.objects.Obj.{Obj}
 use Rattle.dl_ir.specs.Heap.{Objects, name_cmp}
 use Rattle.dl_ir.proofs.NameOrder.{names_total, exact_names}
-use Rattle.dl_ir.proofs.Entries.{Held}
+use Rattle.dl_ir.proofs.SortedEntries.{Held}
 use Rattle.dl_ir.proofs.Lookups.{same_or_not, got_beside}
 use Rattle.dl_ir.proofs.Members.{In, get_in}
 

@@ -11,6 +11,7 @@ ghost use Rattle.dl_ir.specs.declared.names.Name.{Name};
 ghost use Rattle.dl_ir.specs.declared.objects.Obj.{Obj};
 
 use crate::census::Census;
+use crate::entries::Entries;
 use crate::modules::{KindDecl, Module};
 use crate::names::{Name, Value};
 use crate::objects::Obj;
@@ -165,12 +166,11 @@ impl Heap {
         self.census.shared.first_name()
     }
 
-    /// The name at a place in the order of names, with its object.
-    pub fn entry_at(&self, at: usize) -> (Name, &Obj)
-        requires { at < map.len self.now.objects }
-        ensures { slice_get (map.entries self.now.objects) at ≡ Some (result.0, result.1.now) }
+    /// The names of the objects with the objects, in the order of names.
+    pub fn iter(&self) -> Entries<'_, Obj>
+        ensures { result ≡ map.entries self.now.objects }
     {
-        self.census.objects.entry_at(at)
+        self.census.objects.iter()
     }
 
     /// The number of objects.
@@ -184,12 +184,7 @@ impl Heap {
     pub fn hidden_len(&self) -> usize
         ensures { result ≡ hidden_count self.now.objects }
     {
-        let mut hidden = 0;
-        for at in 0..self.len() {
-            let (name, _) = self.entry_at(at);
-            hidden += one_if(name.ticket > 0);
-        }
-        hidden
+        hidden_in(&self.census.objects)
     }
 
     pub fn is_empty(&self) -> bool
@@ -232,6 +227,18 @@ fn field_of(objects: &Table<Obj>, name: Name, field: usize) -> Option<Value>
     }
 }
 
+// The number of hidden objects, counted.
+fn hidden_in(objects: &Table<Obj>) -> usize
+    requires { map.len objects.now.rows ≤ 2 ^ 48 }
+    ensures { result ≡ hidden_count objects.now.rows }
+{
+    let mut hidden = 0;
+    for (name, _) in objects.iter() {
+        hidden += one_if(name.ticket > 0);
+    }
+    hidden
+}
+
 // The number of fields that refer to this name, counted.
 fn fields_that_refer(objects: &Table<Obj>, name: Name) -> u64
     requires fields { HasFewFields objects.now.rows }
@@ -239,8 +246,7 @@ fn fields_that_refer(objects: &Table<Obj>, name: Name) -> u64
     ensures { result ≡ refs objects.now.rows name }
 {
     let mut count = 0;
-    for at in 0..objects.len() {
-        let (_, object) = objects.entry_at(at);
+    for (_, object) in objects.iter() {
         count += count_in(object.fields.as_slice(), name);
     }
     count
@@ -347,9 +353,11 @@ mod tests {
         };
         heap.set_field(second, 0, Value::Ref(Some(first)));
         assert!(rt; heap.is_full());
-        if heap.len() == 2 {
-            assert_eq!(rt; [heap.entry_at(0).0, heap.entry_at(1).0], [first, second]);
-        }
+        let mut names = heap.iter().map(|(name, _)| name);
+        assert_eq!(rt;
+            [names.next(), names.next(), names.next()],
+            [Some(first), Some(second), None]
+        );
         assert_eq!(rt; heap.refs(first), 1);
         assert_eq!(rt; heap.first_loose(), Some(second));
         let held = heap.get(second).and_then(|object| object.fields.get(0));
@@ -360,6 +368,34 @@ mod tests {
         assert_eq!(rt; heap.len(), 1);
         assert_eq!(rt; heap.get(second).map(|object| object.sealed), Some(true));
         assert!(rt; heap.get(first).is_none());
+        Ok(())
+    }
+
+    // Names are put and removed until the memory has been filled several times over.
+    #[test]
+    fn gives_memory_of_removed_objects_back(rt: HostRuntime) -> Result<(), Fail> {
+        let mut heap = Heap::new(rt.alloc(), 2)?;
+        for ticket in 1..=9 {
+            if heap.is_full() {
+                break;
+            }
+            let name = Name { ticket, index: 1 };
+            heap.put(
+                name,
+                Obj {
+                    kind: 1,
+                    sealed: ticket == 1,
+                    fields: Fields::new(),
+                },
+            );
+            assert_eq!(rt; heap.first_loose(), (ticket > 1).then_some(name));
+            if ticket > 1 {
+                heap.remove(name);
+            }
+        }
+        assert!(rt; !heap.is_full());
+        assert_eq!(rt; heap.len(), 1);
+        assert_eq!(rt; heap.iter().map(|(name, _)| name.ticket).last(), Some(1));
         Ok(())
     }
 

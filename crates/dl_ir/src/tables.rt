@@ -1,21 +1,28 @@
-ghost use Rattle.std.specs.Prelude.{◌≡◌, ◌↔◌, true, [], ◌<◌, ◌≤◌, IsTrue, IfOk, IfErr, None, Some, length, slice_get, slice_set, vec_capacity};
+ghost use Rattle.std.specs.Prelude.{◌≡◌, ◌↔◌, true, [], ◌+◌, ◌<◌, ◌≤◌, IsTrue, IfOk, IfErr, None, Some, Option, length, take, slice_get, slice_set, vec_capacity};
 ghost use Rattle.std.specs.Option.{option_copied, option_map, option_map_or};
 ghost use Rattle.std.specs.FinMap as map;
 ghost use Rattle.dl_ir.specs.Heap.{name_cmp, with_field};
 ghost use Rattle.dl_ir.specs.References.{with_seal};
-ghost use Rattle.dl_ir.specs.Places.{IsAt, IsGap};
+ghost use Rattle.dl_ir.specs.Places.{IsAt, IsGap, present};
 ghost use Rattle.dl_ir.specs.declared.names.Name.{Name};
 ghost use Rattle.dl_ir.specs.declared.objects.Obj.{Obj};
 
+use crate::entries::Entries;
 use crate::names::{Name, Value};
 use crate::objects::Obj;
 use std::alloc::{AllocError, Global};
 use std::marker::Model;
 
-/// Values under names, in the order of names, with memory for a number of them that is chosen when it is made.
+/// Values under names, in the order of names, with memory for a number of them that is chosen when it is made. Time grows
+/// with the logarithm of that number, over many calls together, as long as names are put in rising order.
 #[derive(Drop)]
 pub struct Table<V> {
-    entries: Vec<(Name, V)>,
+    // In the order of names. A name stays when its value is removed, until so many are there that memory is wanted.
+    entries: Vec<(Name, Option<V>)>,
+    // How many names have a value.
+    len: usize,
+    // No name before this place has a value.
+    first: usize,
     room: usize,
 }
 
@@ -24,15 +31,15 @@ impl<V> Model for Table<V> {
     ghost use Rattle.std.specs.Prelude.{vec_capacity};
     ghost use Rattle.dl_ir.specs.Rows.{Rows, coded_rows};
     ghost use Rattle.dl_ir.specs.References.{with_seal};
-    ghost use Rattle.dl_ir.specs.Places.{IsTable};
+    ghost use Rattle.dl_ir.specs.Places.{IsTable, present};
 
     ghost Value = { Rows V };
 
     ghost coded = { coded_rows V.code };
 
-    ghost view = { λ t. record { rows = map.from_sorted t.entries.items; room = t.room } };
+    ghost view = { λ t. record { rows = map.from_sorted (present t.entries.items); room = t.room } };
 
-    ghost invariant = { λ t. IsTable t.entries.items t.room (vec_capacity t.entries) };
+    ghost invariant = { λ t. IsTable t.entries.items t.len t.first t.room (vec_capacity t.entries) };
 }
 
 impl<V> Table<V> {
@@ -40,8 +47,13 @@ impl<V> Table<V> {
     pub fn new(alloc: Global, room: usize) -> Result<Table<V>, AllocError>
         ensures { IfOk result (λ t. t ≡ record { rows = map.empty; room = room }) }
     {
+        let Some(memory) = room.checked_mul(2) else {
+            return Err(AllocError);
+        };
         Ok(Table {
-            entries: Vec::with_capacity(alloc, room)?,
+            entries: Vec::with_capacity(alloc, memory)?,
+            len: 0,
+            first: 0,
             room,
         })
     }
@@ -51,7 +63,7 @@ impl<V> Table<V> {
         ensures { option_copied result ≡ map.get self.now.rows name }
     {
         match place(&self.entries, name) {
-            Ok(at) => Some(&self.entries[at].1),
+            Ok(at) => self.entries[at].1.as_ref(),
             Err(_) => None,
         }
     }
@@ -60,33 +72,34 @@ impl<V> Table<V> {
     pub fn first_name(&self) -> Option<Name>
         ensures { result ≡ option_map (λ (e : Name × V). e.0) (slice_get (map.entries self.now.rows) 0) }
     {
-        match self.entries.first() {
+        let at = first_from(&self.entries, self.first);
+        match self.entries.get(at) {
             Some(entry) => Some(entry.0),
             None => None,
         }
     }
 
-    /// The name at a place in the order of names, and the value under it.
-    pub fn entry_at(&self, at: usize) -> (Name, &V)
-        requires { at < map.len self.now.rows }
-        ensures { slice_get (map.entries self.now.rows) at ≡ Some (result.0, result.1.now) }
+    /// The names and the values under them, in the order of names.
+    pub fn iter(&self) -> Entries<'_, V>
+        ensures { result ≡ map.entries self.now.rows }
     {
-        let entry = &self.entries[at];
-        (entry.0, &entry.1)
+        Entries {
+            left: &self.entries,
+        }
     }
 
     /// The number of values.
     pub fn len(&self) -> usize
         ensures { result ≡ map.len self.now.rows }
     {
-        self.entries.len()
+        self.len
     }
 
     /// Whether there is no memory for another value.
     pub fn is_full(&self) -> bool
         ensures { IsTrue result ↔ (self.now.room ≤ map.len self.now.rows) }
     {
-        self.room <= self.entries.len()
+        self.room <= self.len
     }
 }
 
@@ -96,10 +109,17 @@ impl<V: Drop> Table<V> {
         requires { map.get self.old.rows name ≡ None → map.len self.old.rows < self.old.room }
         ensures { self.new ≡ record self.old { rows = map.insert self.old.rows name value } }
     {
+        self.first = make_room(&mut self.entries, self.first, self.room);
         match place(&self.entries, name) {
-            Ok(at) => self.entries[at] = (name, value),
-            Err(at) => match self.entries.insert(at, (name, value)) {
-                Ok(()) => {}
+            Ok(at) => {
+                self.len += fill(&mut self.entries, at, value);
+                self.first = self.first.min(at);
+            }
+            Err(at) => match self.entries.insert(at, (name, Some(value))) {
+                Ok(()) => {
+                    self.len += 1;
+                    self.first = self.first.min(at);
+                }
                 Err(_) => unreachable!(),
             },
         }
@@ -112,8 +132,10 @@ impl<V: Drop> Table<V> {
     {
         match place(&self.entries, name) {
             Ok(at) => {
-                let (_, value) = self.entries.remove(at);
-                Some(value)
+                let value = take_at(&mut self.entries, at);
+                self.len -= count(&value);
+                self.first = trim(&mut self.entries, self.len, self.first);
+                value
             }
             Err(_) => None,
         }
@@ -149,20 +171,113 @@ fn place<V>(entries: &[(Name, V)], name: Name) -> Result<usize, usize>
     entries.binary_search_by_key(&name, |(held, _)| *held)
 }
 
-// Writes a field of the object at a place.
-fn set_at(entries: &mut Vec<(Name, Obj)>, at: usize, field: usize, value: Value)
-    requires { at < length entries.old.items }
-    ensures field { (e : Name × Obj) → slice_get entries.old.items at ≡ Some e → entries.new.items ≡ slice_set entries.old.items at (e.0, record e.1 { fields = slice_set e.1.fields field value }) }
-    ensures capacity { vec_capacity entries.new ≡ vec_capacity entries.old }
+// The first place from this one on at which a name has a value, where none has one before.
+fn first_from<V>(entries: &[(Name, Option<V>)], from: usize) -> usize
+    requires { present (take from entries.now) ≡ [] }
+    ensures passed { present (take result entries.now) ≡ [] }
+    ensures first { option_map (λ (e : Name × V). e.0) (slice_get (present entries.now) 0) ≡ option_map (λ (e : Name × Option V). e.0) (slice_get entries.now result) }
 {
-    entries[at].1.fields.set(field, value);
+    let mut at = from;
+    while at < entries.len() && entries[at].1.is_none() {
+        at += 1;
+    }
+    at
 }
 
-// Seals the object at a place.
-fn seal_at(entries: &mut Vec<(Name, Obj)>, at: usize)
-    requires { at < length entries.old.items }
-    ensures sealed { (e : Name × Obj) → slice_get entries.old.items at ≡ Some e → entries.new.items ≡ slice_set entries.old.items at (e.0, record e.1 { sealed = true }) }
+// Lets go of the names that have no value, where memory for another name may be wanting. Answers a place before which no
+// name has a value.
+fn make_room<V: Drop>(entries: &mut Vec<(Name, Option<V>)>, first: usize, room: usize) -> usize
+    requires passed { present (take first entries.old.items) ≡ [] }
+    requires reserved { room + room ≤ vec_capacity entries.old }
+    ensures same { present entries.new.items ≡ present entries.old.items }
+    ensures sorted { map.is_sorted name_cmp entries.old.items ≡ true → map.is_sorted name_cmp entries.new.items ≡ true }
+    ensures passed { present (take result entries.new.items) ≡ [] }
+    ensures capacity { vec_capacity entries.new ≡ vec_capacity entries.old }
+    ensures room { length (present entries.old.items) < room → length entries.new.items < vec_capacity entries.new }
+{
+    if entries.len() / 2 < room {
+        return first;
+    }
+    pack(entries);
+    0
+}
+
+// Lets go of the names that have no value.
+fn pack<V: Drop>(entries: &mut Vec<(Name, Option<V>)>)
+    ensures same { present entries.new.items ≡ present entries.old.items }
+    ensures short { length entries.new.items ≡ length (present entries.old.items) }
+    ensures sorted { map.is_sorted name_cmp entries.old.items ≡ true → map.is_sorted name_cmp entries.new.items ≡ true }
     ensures capacity { vec_capacity entries.new ≡ vec_capacity entries.old }
 {
-    entries[at].1.sealed = true;
+    entries.retain(|entry| entry.1.is_some());
+}
+
+// Lets go of all names, where none has a value. Answers the first place from this one on at which a name has one.
+fn trim<V: Drop>(entries: &mut Vec<(Name, Option<V>)>, len: usize, from: usize) -> usize
+    requires counted { len ≡ length (present entries.old.items) }
+    requires passed { present (take from entries.old.items) ≡ [] }
+    ensures same { present entries.new.items ≡ present entries.old.items }
+    ensures sorted { map.is_sorted name_cmp entries.old.items ≡ true → map.is_sorted name_cmp entries.new.items ≡ true }
+    ensures passed { present (take result entries.new.items) ≡ [] }
+    ensures capacity { vec_capacity entries.new ≡ vec_capacity entries.old }
+{
+    if len == 0 {
+        entries.clear();
+        return 0;
+    }
+    first_from(entries, from)
+}
+
+// How many values there are: one or none.
+fn count<V>(value: &Option<V>) -> usize
+    ensures { result ≡ option_map_or (λ _. 1) value.now 0 }
+{
+    match value {
+        Some(_) => 1,
+        None => 0,
+    }
+}
+
+// Puts a value under the name at a place, and answers 1 where there was none.
+fn fill<V: Drop>(entries: &mut Vec<(Name, Option<V>)>, at: usize, value: V) -> usize
+    requires { at < length entries.old.items }
+    ensures filled { (e : Name × Option V) → slice_get entries.old.items at ≡ Some e → entries.new.items ≡ slice_set entries.old.items at (e.0, Some value) }
+    ensures more { (e : Name × Option V) → slice_get entries.old.items at ≡ Some e → result ≡ option_map_or (λ _. 0) e.1 1 }
+    ensures capacity { vec_capacity entries.new ≡ vec_capacity entries.old }
+{
+    match entries[at].1.replace(value) {
+        Some(_) => 0,
+        None => 1,
+    }
+}
+
+// Takes the value under the name at a place.
+fn take_at<V>(entries: &mut Vec<(Name, Option<V>)>, at: usize) -> Option<V>
+    requires { at < length entries.old.items }
+    ensures taken { (e : Name × Option V) → slice_get entries.old.items at ≡ Some e → (result ≡ e.1) × (entries.new.items ≡ slice_set entries.old.items at (e.0, None)) }
+    ensures capacity { vec_capacity entries.new ≡ vec_capacity entries.old }
+{
+    entries[at].1.take()
+}
+
+// Writes a field of the object at a place, if there is one.
+fn set_at(entries: &mut Vec<(Name, Option<Obj>)>, at: usize, field: usize, value: Value)
+    requires { at < length entries.old.items }
+    ensures field { (e : Name × Option Obj) → slice_get entries.old.items at ≡ Some e → entries.new.items ≡ slice_set entries.old.items at (e.0, option_map (λ (object : Obj). record object { fields = slice_set object.fields field value }) e.1) }
+    ensures capacity { vec_capacity entries.new ≡ vec_capacity entries.old }
+{
+    if let Some(object) = &mut entries[at].1 {
+        object.fields.set(field, value);
+    }
+}
+
+// Seals the object at a place, if there is one.
+fn seal_at(entries: &mut Vec<(Name, Option<Obj>)>, at: usize)
+    requires { at < length entries.old.items }
+    ensures sealed { (e : Name × Option Obj) → slice_get entries.old.items at ≡ Some e → entries.new.items ≡ slice_set entries.old.items at (e.0, option_map (λ (object : Obj). record object { sealed = true }) e.1) }
+    ensures capacity { vec_capacity entries.new ≡ vec_capacity entries.old }
+{
+    if let Some(object) = &mut entries[at].1 {
+        object.sealed = true;
+    }
 }

@@ -1,5 +1,5 @@
 -- A heap is a forest where each of its objects stands in one.
-use Rattle.std.proofs.Common.{◌≡◌, ℕ, ◌<◌, ◌≤◌, Bool, true, false, cond, ◌&&◌, ◌||◌, List, [], ◌∷◌, refl, sym, ap, ◌∙◌, Some, None, arith}
+use Rattle.std.proofs.Common.{◌≡◌, ℕ, ◌<◌, ◌≤◌, Bool, true, false, cond, ◌&&◌, ◌||◌, List, [], ◌∷◌, refl, sym, ap, ◌∙◌, Some, None, inl, inr, arith}
 use Rattle.std.specs.Prelude.{count_by, nat_lt, nat_le, if◌then◌else◌}
 use Rattle.std.specs.List.{list_any, list_all}
 use Rattle.std.specs.FinMap as map
@@ -14,7 +14,7 @@ use Rattle.dl_ir.specs.Heap.{Objects}
 use Rattle.dl_shape.specs.References.{name_eq, refers_to, refs, IsForest}
 use Rattle.dl_shape.specs.Settling.{is_shared}
 use Rattle.dl_shape.specs.Forests.{names_root, stands_in_forest}
-use Rattle.dl_ir.proofs.Members.{In, in_entries, get_in, all_pass, term_le, zeros}
+use Rattle.dl_ir.proofs.Members.{Held, In, in_entries, get_in, all_pass, term_le, zeros}
 
 abbrev one_if : Bool → ℕ
 one_if b = cond b 1 0
@@ -81,6 +81,16 @@ forest_stands h forest e there =
     let parts = shared_parts (nat_lt 0 e.0.ticket) e.1.sealed (refs h e.0) is in
     omega (arith, parts.2, forest.at_most_one e.0 e.1 (get_in h e there) (ltb-true 0 e.0.ticket parts.0) parts.1)) in
     ap (λ a. if a then false else (if is_shared h e then false else true)) no_root ∙ ap (λ b. if b then false else true) alone
+
+-- where each entry passes a test, all do
+all_in : (test : Name × Obj → Bool) (es : Held) → ((e : Name × Obj) → In e es → test e ≡ true) → list_all test es ≡ true
+all_in test [] passes = refl
+all_in test (e ∷ es) passes = ap (λ b. b && list_all test es) (passes e (inl refl)) ∙ all_in test es (λ x there. passes x (inr there))
+
+-- so all do
+pub forest_all : (h : Objects) → IsForest h → list_all (stands_in_forest h) (map.entries h) ≡ true
+forest_all h forest = all_in (stands_in_forest h) (map.entries h) (forest_stands h forest)
+
 
 -- and where each does, the heap is a forest
 pub stands_forest : (h : Objects) → list_all (stands_in_forest h) (map.entries h) ≡ true → IsForest h

@@ -1,5 +1,4 @@
 pub mod Forest
-mod Looks
 pub mod Order
 pub mod Rising
 mod Sealing

@@ -23,8 +23,7 @@ pub fn has_countable_fields(heap: &Heap) -> bool
     ensures { IsTrue result ↔ (sum_by (λ (entry : Name × Obj). length entry.1.fields) (map.entries heap.now.objects) < 2 ^ 32) }
 {
     let mut total: usize = 0;
-    for at in 0..heap.len() {
-        let (_, object) = heap.entry_at(at);
+    for (_, object) in heap.iter() {
         total = total.saturating_add(object.fields.len());
     }
     total < 4_294_967_296
@@ -34,8 +33,7 @@ pub fn has_countable_fields(heap: &Heap) -> bool
 pub fn is_forest(heap: &Heap) -> bool
     ensures { IsTrue result ↔ IsForest heap.now.objects }
 {
-    for at in 0..heap.len() {
-        let (name, object) = heap.entry_at(at);
+    for (name, object) in heap.iter() {
         if !stands_in_forest(heap, name, object) {
             return false;
         }

@@ -1,4 +1,3 @@
-use Rattle.std.proofs.Common.{drop}
 use Rattle.std.specs.List.{flat_map}
 use Rattle.std.specs.FinMap.{entries}
 use Rattle.dl_history.specs.Report.{object_line}
@@ -7,4 +6,4 @@ use Rattle.dl_history.proofs.heaps.put_object_lines.Given as goal
 
 abbrev pub invariant-objects : goal.invariant-objects
 invariant-objects g l = PutSoFar (g.K.Sink.taken l.initial.sink) (g.K.Sink.taken l.sink) l.initial.out l.out
-    (flat_map (object_line l.source) (entries l.heap.objects)) (flat_map (object_line l.source) (drop l.at (entries l.heap.objects)))
+    (flat_map (object_line l.source) (entries l.heap.objects)) (flat_map (object_line l.source) l.name-iterator)

@@ -1,6 +1,5 @@
 use Rattle.std.proofs.Common.{◌+◌, sym, ap, ◌∙◌, arith}
-use Rattle.std.specs.FinMap as map
-use Rattle.dl_ir.specs.Heap.{View, root, roots_from, blank_object}
+use Rattle.dl_ir.specs.Heap.{root, roots_from, blank_object}
 use Rattle.dl_ir.specs.Rows.{added}
 use Rattle.dl_ir.proofs.Starts.{roots_from-more, length-roots_from, added_more, len-added}
 use Rattle.dl_ir.proofs.heaps.add_roots_of.Goals as goal

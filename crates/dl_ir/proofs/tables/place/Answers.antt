@@ -1,6 +1,6 @@
 use Rattle.std.proofs.Common.{rules}
 use Rattle.std.proofs.lemmas.List.Sorted.{answers_always}
-use Rattle.dl_ir.proofs.Entries.{holds}
+use Rattle.dl_ir.proofs.SortedEntries.{holds}
 use Rattle.dl_ir.proofs.Search.{searched}
 use Rattle.dl_ir.proofs.tables.place.Goals as goal
 

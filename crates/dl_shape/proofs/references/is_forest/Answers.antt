@@ -1,38 +1,35 @@
-use Rattle.std.proofs.Common.{◌≡◌, ◌<◌, length, true, false, refl, ap, sym, ◌∙◌, arith}
+use Rattle.std.proofs.Common.{◌≡◌, true, false, refl, ap, sym, ◌∙◌, ◌&&◌}
 use Rattle.std.specs.List.{list_all}
-use Rattle.std.specs.FinMap.{entries, len-entries}
-use Rattle.std.proofs.lemmas.List.{take_all}
-use Rattle.std.proofs.lemmas.Option.{get_or_from_slice_get}
+use Rattle.std.specs.FinMap.{entries}
 use Rattle.dl_ir.specs.declared.names.Name.{Name}
 use Rattle.dl_ir.specs.declared.objects.Obj.{Obj}
 use Rattle.dl_ir.proofs.Members.{Held}
 use Rattle.dl_shape.specs.Forests.{stands_in_forest}
-use Rattle.dl_shape.proofs.Looks.{in_slice, all_next}
-use Rattle.dl_shape.proofs.Forest.{forest_stands, stands_forest}
+use Rattle.dl_shape.proofs.Forest.{forest_all, stands_forest}
 use Rattle.dl_shape.proofs.references.is_forest.Goals as goal
 
 false_not_true : false ≡ true → ⊥
 false_not_true is = cc
 
-pub loop-at-preserved : goal.loop-at-preserved
-loop-at-preserved c =
+pub loop-name-preserved : goal.loop-name-preserved
+loop-name-preserved c =
     let h = c.args.heap.now.objects in
-    let es = entries h in
-    let e : Name × Obj = (c.entry_at.result.0, c.entry_at.result.1.now) in
-    let within : c.loop-at.at < length es = omega (arith, c.loop-at-test.true, c.len-at-end.ensures, len-entries h) in
-    all_next (stands_in_forest h) es c.loop-at.at e c.loop-at.invariant within (sym (get_or_from_slice_get es c.loop-at.at e e c.entry_at.ensures)) (sym c.stands_in_forest.ensures ∙ c.if-not-stands_in_forest.false)
+    let left : Held = c.next.new.self in
+    let here = sym c.stands_in_forest.ensures ∙ c.if-not-stands_in_forest.false in
+    ap (λ b. b && list_all (stands_in_forest h) left) (sym here)
+    ∙ ap (λ (l : Held). list_all (stands_in_forest h) l) (sym c.in-Some.ensures.steps) ∙ c.loop-name.invariant
 
 pub returns : goal.returns
 returns c =
     let h = c.args.heap.now.objects in
-    let es = entries h in
-    let all = ap (λ (l : Held). list_all (stands_in_forest h) l) (sym (take_all c.loop-at.at es (omega (arith, c.loop-at-test.false, c.len-at-end.ensures, len-entries h)))) ∙ c.loop-at.invariant in
+    let all = sym c.loop-name.invariant ∙ ap (λ (l : Held). list_all (stands_in_forest h) l) c.in-None.ensures.steps.0 in
     (λ _. stands_forest h all, λ _. refl)
 
 pub returns-then-not-stands_in_forest : goal.returns-then-not-stands_in_forest
 returns-then-not-stands_in_forest c =
     let h = c.args.heap.now.objects in
-    let e : Name × Obj = (c.entry_at.result.0, c.entry_at.result.1.now) in
-    let here = in_slice (entries h) c.loop-at.at e c.entry_at.ensures in
+    let left : Held = c.next.new.self in
     let fails = sym c.stands_in_forest.ensures ∙ c.if-not-stands_in_forest.true in
-    (λ never. absurd (false_not_true never), λ forest. sym fails ∙ forest_stands h forest e here)
+    let some = ap (λ b. b && list_all (stands_in_forest h) left) (sym fails)
+        ∙ ap (λ (l : Held). list_all (stands_in_forest h) l) (sym c.in-Some.ensures.steps) ∙ c.loop-name.invariant in
+    (λ never. absurd (false_not_true never), λ forest. some ∙ forest_all h forest)

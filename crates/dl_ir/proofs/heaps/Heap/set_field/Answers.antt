@@ -1,5 +1,4 @@
-use Rattle.std.proofs.Common.{refl, ap, ◌≡◌}
-use Rattle.dl_ir.specs.Heap.{View}
+use Rattle.std.proofs.Common.{refl, ap}
 use Rattle.dl_ir.proofs.Keeping.{filed_field, lost_few, kept_field, no_field}
 use Rattle.dl_ir.proofs.heaps.Heap.set_field.Goals as goal
 

@@ -1,11 +1,11 @@
 -- Edits of a heap's sorted entries at a place.
-use Rattle.std.proofs.Common.{◌≡◌, ℕ, zero, suc, ◌<◌, ◌≤◌, Bool, true, false, cond, not, ◌&&◌, List, [], ◌∷◌, length, set, refl, sym, ap, subst, ◌∙◌, T, Some, None, arith}
-use Rattle.std.specs.List.{insert, remove, slice_get}
-use Rattle.std.specs.Ordering.{is_lt, is_eq, eq_by_cmp}
+use Rattle.std.proofs.Common.{◌≡◌, ℕ, zero, suc, ◌<◌, ◌≤◌, Bool, true, false, cond, ◌&&◌, List, [], ◌∷◌, length, set, refl, sym, ap, subst, ◌∙◌, T, Some, None, arith}
+use Rattle.std.specs.List.{insert, slice_get}
+use Rattle.std.specs.Ordering.{is_lt, is_eq}
 use Rattle.std.specs.declared.cmp.Ordering.{Ordering}
 use Rattle.std.specs.declared.cmp.Ordering.TheVariants.{Less, Equal, Greater}
 use Rattle.std.specs.FinMap.{find, put, is_sorted}
-use Rattle.std.specs.FinMap.Entries.{by_order, where_key, below_all}
+use Rattle.std.specs.FinMap.Entries.{by_order, below_all}
 use Rattle.dl_ir.specs.declared.names.Name.{Name}
 use Rattle.dl_ir.specs.Heap.{name_cmp}
 use Rattle.dl_ir.specs.Places.{IsAt, IsGap}
@@ -78,44 +78,3 @@ find_gap {X} k (e ∷ es) zero sorted h =
 find_gap {X} k (e ∷ es) (suc at) sorted h =
     let rest = find_gap k es at (second_of_both _ _ sorted) h.1 in
     (ap (λ r. cond (is_eq r) (Some e.1) (find name_cmp k es)) (less_turned e.0 k h.0) ∙ rest.0, omega (arith, rest.1))
-
--- the entries but the one with the name
-abbrev pub others : {X : Type 0} → Name → Held X → Held X
-others {X} k es = where_key name_cmp (λ n. not (eq_by_cmp name_cmp k n)) es
-
--- nothing is left out where each name is greater
-others_above : {X : Type 0} → (k x : Name) (es : Held X) → name_cmp k x ≡ Less → T (below_all name_cmp x es) → es ≡ others k es
-others_above {X} k x [] less below = refl
-others_above {X} k x (e ∷ es) less below =
-    ap (λ (l : Held X). e ∷ l) (others_above k x es less (second_of_both _ _ below))
-    ∙ ap (λ r. cond (not (is_eq r)) (e ∷ others k es) (others k es)) (sym (names_total.trans k x e.0 less (is_less _ (first_of_both _ _ below))))
-
--- nor where each name is greater than one that ties
-others_tied : {X : Type 0} → (k x : Name) (es : Held X) → name_cmp k x ≡ Equal → T (below_all name_cmp x es) → es ≡ others k es
-others_tied {X} k x [] tied below = refl
-others_tied {X} k x (e ∷ es) tied below =
-    ap (λ (l : Held X). e ∷ l) (others_tied k x es tied (second_of_both _ _ below))
-    ∙ ap (λ r. cond (not (is_eq r)) (e ∷ others k es) (others k es)) (sym (names_total.congr k x e.0 tied ∙ is_less _ (first_of_both _ _ below)))
-
--- to remove the entry at its place leaves the others
-pub remove_at : {X : Type 0} → (k : Name) (es : Held X) (at : ℕ) → T (is_sorted name_cmp es) → IsAt k es at → remove es at ≡ others k es
-remove_at {X} k [] at sorted h = absurd h
-remove_at {X} k (e ∷ es) zero sorted h =
-    let tied = equal_turned e.0 k h in
-    others_tied k e.0 es tied (first_of_both _ _ sorted)
-    ∙ ap (λ r. cond (not (is_eq r)) (e ∷ others k es) (others k es)) (sym tied)
-remove_at {X} k (e ∷ es) (suc at) sorted h =
-    ap (λ (l : Held X). e ∷ l) (remove_at k es at (second_of_both _ _ sorted) h.1)
-    ∙ ap (λ r. cond (not (is_eq r)) (e ∷ others k es) (others k es)) (sym (less_turned e.0 k h.0))
-
--- and nothing is removed where there is a gap
-pub others_gap : {X : Type 0} → (k : Name) (es : Held X) (at : ℕ) → T (is_sorted name_cmp es) → IsGap k es at → es ≡ others k es
-others_gap {X} k [] zero sorted h = refl
-others_gap {X} k [] (suc at) sorted h = absurd h
-others_gap {X} k (e ∷ es) zero sorted h =
-    let less = greater_turned e.0 k h in
-    ap (λ (l : Held X). e ∷ l) (others_above k e.0 es less (first_of_both _ _ sorted))
-    ∙ ap (λ r. cond (not (is_eq r)) (e ∷ others k es) (others k es)) (sym less)
-others_gap {X} k (e ∷ es) (suc at) sorted h =
-    ap (λ (l : Held X). e ∷ l) (others_gap k es at (second_of_both _ _ sorted) h.1)
-    ∙ ap (λ r. cond (not (is_eq r)) (e ∷ others k es) (others k es)) (sym (less_turned e.0 k h.0))
