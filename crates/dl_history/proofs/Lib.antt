@@ -1,5 +1,5 @@
 mod Lists
-mod Loops
+mod Pairs
 mod Moved
 mod Places
 mod Walk

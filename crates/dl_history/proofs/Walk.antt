@@ -17,8 +17,9 @@ use Rattle.dl_ir.specs.declared.calls.Call.{Call}
 use Rattle.dl_ir.specs.Cover.{runs_of, refusals_of, call_at, one_if_there, Covers}
 use Rattle.dl_history.specs.Histories.{caller_at, index_at, joined, places_of, refusals_by, ArePlacesOf, AreByCaller}
 use Rattle.dl_history.specs.Orders.{AreRefusalsOf, answer_at, answer_with}
-use Rattle.dl_history.specs.Report.{is_entry_of, is_refusal_of, told_text, outcome_text, line_text, answer_line, each_from}
-use Rattle.dl_history.proofs.Loops.{each_numbered}
+use Rattle.dl_history.specs.Report.{is_entry_of, is_refusal_of, told_text, outcome_text, line_text, answer_line}
+use Rattle.dl_text.specs.Lists.{each_from}
+use Rattle.dl_text.proofs.Loops.{each_numbered}
 use Rattle.std.proofs.lemmas.Option.{slice_get-get_or}
 use Rattle.dl_history.proofs.Lists.{count-cons, count-moves, count-filter}
 
@@ -459,7 +460,7 @@ module _ (entries : List Entry) (all : List Refusal) (caller : ℕ) (calls : Lis
       let same : told_text answer refusal ≡ outcome_text entries all caller (i + 1)
       = ap (λ (a : Option Answer). told_text a refusal) is_answer ∙ ap (told_text (answer_at entries (i + 1) (slice_get places told))) is_refusal
       ∙ told_same entries all caller places refusals (i + 1) told passed left (once i within) in
-      each_numbered (λ index (call : Call). answer_line entries all caller index) 1 calls i (record { op = 0; args = [] }) within
+      each_numbered (λ index (call : Call). answer_line entries all caller index) (i + 1) calls i (record { op = 0; args = [] }) within
       ∙ ap (λ text. line_text caller (i + 1) text ++ each_from (λ index (call : Call). answer_line entries all caller index) (i + 1 + 1) (drop (i + 1) calls)) (sym same)
 
 -- what covers all files covers each caller's

@@ -20,6 +20,7 @@ use Rattle.dl_ir.specs.declared.objects.Obj.{Obj}
 use Rattle.dl_ir.specs.Heap.{Objects, hidden_count}
 use Rattle.dl_ir.specs.Cover.{call_at}
 use Rattle.dl_ir.specs.declared.moves.Move.{Move}
+use Rattle.dl_text.specs.Lists.{each_from}
 use Rattle.dl_shape.specs.Pool.{moves_of, in_rising_versions}
 
 -- two numbers with a dot between them, as names and the places of operations are written
@@ -73,11 +74,6 @@ told_text answer refusal = option_map_or answer_text answer (option_map_or refus
 abbrev pub outcome_text : List Entry → List Refusal → ℕ → ℕ → List ℕ
 outcome_text history refusals caller index = told_text (option_map (λ (entry : Entry). entry.answer) (find (is_entry_of caller index) history))
     (find (is_refusal_of caller index) refusals)
-
--- a text for each element of a list, made of its number from a first one on and of the element
-abbrev pub each_from : {A : Type 0} → (ℕ → A → List ℕ) → ℕ → List A → List ℕ
-each_from text number [] = []
-each_from text number (x ∷ rest) = text number x ++ each_from text (number + 1) rest
 
 -- the line `CALLER.INDEX TEXT`
 abbrev pub line_text : ℕ → ℕ → List ℕ → List ℕ

@@ -5,7 +5,8 @@ ghost use Rattle.dl_ir.specs.Cover.{call_at, runs_of, refusals_of, one_if_there,
 ghost use Rattle.dl_text.specs.Writing.{Puts};
 ghost use Rattle.dl_history.specs.Histories.{joined, AreByCaller};
 ghost use Rattle.dl_history.specs.Orders.{AreRefusalsOf, answer_at, answer_with};
-ghost use Rattle.dl_history.specs.Report.{told_text, line_text, answer_lines, answers_part, op_text, call_text, place_text, history_line, history_part, argument_text, each_from, head_line, AreFew};
+ghost use Rattle.dl_text.specs.Lists.{each_from};
+ghost use Rattle.dl_history.specs.Report.{told_text, line_text, answer_lines, answers_part, op_text, call_text, place_text, history_line, history_part, argument_text, head_line, AreFew};
 
 use crate::histories::History;
 use crate::pieces::{put_answer, put_argument, put_dotted, put_head, put_refusal, put_text};

@@ -11,6 +11,5 @@ mod Refuted
 mod Rising
 mod SameLists
 pub mod Jumps
-pub mod Loops
 pub mod Operands
 pub mod Patches

@@ -19,6 +19,7 @@ use Rattle.dl_ir.specs.declared.modules.Module.{Module}
 use Rattle.dl_ir.specs.declared.modules.OpDecl.{OpDecl}
 use Rattle.dl_ir.specs.declared.modules.Ty.{Ty}
 use Rattle.dl_ir.specs.declared.modules.Ty.TheVariants.{Int, Of}
+use Rattle.dl_text.specs.Lists.{each_from}
 use Rattle.dl_instr.specs.declared.code.Code.{Code}
 use Rattle.dl_instr.specs.declared.steps.Step.{Step}
 use Rattle.dl_instr.specs.declared.steps.Step.TheVariants.{Read, Want, Set, Drop, Make, Eval, Write, Test, Jump, Give}
@@ -150,11 +151,6 @@ step_text source op (Give e) = codes "give " ++ expr_text op e
 -- the line `N STEP`
 abbrev pub step_line : Module → OpDecl → ℕ → Step → List ℕ
 step_line source op number step = decimal number ++ codes " " ++ step_text source op step ++ codes "\n"
-
--- a text for each element of a list, made of its number from a first one on and of the element
-abbrev pub each_from : {A : Type 0} → (ℕ → A → List ℕ) → ℕ → List A → List ℕ
-each_from text number [] = []
-each_from text number (x ∷ rest) = text number x ++ each_from text (number + 1) rest
 
 -- the line `op NAME`, and a line for each step
 abbrev pub op_lines : Module → List Step → OpDecl → List ℕ

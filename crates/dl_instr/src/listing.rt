@@ -1,7 +1,8 @@
 ghost use Rattle.std.specs.Prelude.{◌≡◌, ◌++◌, ◌+◌, codes, decimal, false, if◌then◌else◌, [], slice_get};
 ghost use Rattle.std.specs.Option.{option_map_or};
 ghost use Rattle.dl_text.specs.Writing.{Puts};
-ghost use Rattle.dl_instr.specs.Listing.{local_text, field_text, kind_text, place_text, set_text, content_text, test_word, cond_text, expr_text, step_text, step_line, each_from, op_lines, op_listing, listing};
+ghost use Rattle.dl_text.specs.Lists.{each_from};
+ghost use Rattle.dl_instr.specs.Listing.{local_text, field_text, kind_text, place_text, set_text, content_text, test_word, cond_text, expr_text, step_text, step_line, op_lines, op_listing, listing};
 
 use crate::code::Code;
 use crate::conditions::put_cond;

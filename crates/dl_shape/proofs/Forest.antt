@@ -91,7 +91,6 @@ all_in test (e ∷ es) passes = ap (λ b. b && list_all test es) (passes e (inl 
 pub forest_all : (h : Objects) → IsForest h → list_all (stands_in_forest h) (map.entries h) ≡ true
 forest_all h forest = all_in (stands_in_forest h) (map.entries h) (forest_stands h forest)
 
-
 -- and where each does, the heap is a forest
 pub stands_forest : (h : Objects) → list_all (stands_in_forest h) (map.entries h) ≡ true → IsForest h
 stands_forest h all = record {

@@ -3,3 +3,4 @@ pub mod Pieces
 pub mod Cuts
 pub mod State
 pub mod WritingLemmas
+pub mod Loops

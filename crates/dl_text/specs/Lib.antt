@@ -2,3 +2,4 @@ pub mod Bytes
 pub mod Text
 pub mod Scan
 pub mod Writing
+pub mod Lists

@@ -2,7 +2,8 @@ use Rattle.std.proofs.Common.{ap, refl, pos}
 use Rattle.std.specs.List.{flat_map}
 use Rattle.dl_ir.specs.declared.names.Value.TheVariants.{Int}
 use Rattle.dl_history.specs.Report.{field_text}
-use Rattle.dl_history.proofs.Loops.{put_start, put_fails, put_step, put_ends, pair_at, zip_ends, below_first, below_second, not_below}
+use Rattle.dl_text.proofs.Loops.{put_start, put_fails, put_step, put_ends}
+use Rattle.dl_history.proofs.Pairs.{pair_at, zip_ends, below_first, below_second, not_below}
 use Rattle.dl_history.proofs.heaps.put_fields.Goals as goal
 
 pub fields-init : goal.fields-init

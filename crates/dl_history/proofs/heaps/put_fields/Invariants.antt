@@ -1,7 +1,7 @@
 use Rattle.std.proofs.Common.{drop}
 use Rattle.std.specs.List.{flat_map, zip}
 use Rattle.dl_history.specs.Report.{field_text}
-use Rattle.dl_history.proofs.Loops.{PutSoFar}
+use Rattle.dl_text.proofs.Loops.{PutSoFar}
 use Rattle.dl_history.proofs.heaps.put_fields.Given as goal
 
 abbrev pub invariant-fields : goal.invariant-fields

@@ -1,7 +1,7 @@
 use Rattle.std.specs.List.{flat_map}
 use Rattle.std.specs.FinMap.{entries}
 use Rattle.dl_history.specs.Report.{object_line}
-use Rattle.dl_history.proofs.Loops.{PutSoFar}
+use Rattle.dl_text.proofs.Loops.{PutSoFar}
 use Rattle.dl_history.proofs.heaps.put_object_lines.Given as goal
 
 abbrev pub invariant-objects : goal.invariant-objects

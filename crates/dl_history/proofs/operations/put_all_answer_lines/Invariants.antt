@@ -1,7 +1,8 @@
 use Rattle.std.proofs.Common.{◌+◌, drop}
 use Rattle.dl_history.specs.Histories.{joined}
-use Rattle.dl_history.specs.Report.{answer_lines, each_from}
-use Rattle.dl_history.proofs.Loops.{PutSoFar}
+use Rattle.dl_history.specs.Report.{answer_lines}
+use Rattle.dl_text.specs.Lists.{each_from}
+use Rattle.dl_text.proofs.Loops.{PutSoFar}
 use Rattle.dl_history.proofs.operations.put_all_answer_lines.Given as goal
 
 abbrev pub invariant-callers : goal.invariant-callers

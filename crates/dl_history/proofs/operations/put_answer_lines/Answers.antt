@@ -1,7 +1,7 @@
 use Rattle.std.proofs.Common.{◌≡◌, ◌+◌, ◌<◌, length, slice_get, is_some, refl, sym, ◌∙◌, ap, arith}
 use Rattle.dl_history.specs.Histories.{joined}
 use Rattle.dl_history.specs.Orders.{answer_at}
-use Rattle.dl_history.proofs.Loops.{put_start, put_step, put_fails}
+use Rattle.dl_text.proofs.Loops.{put_start, put_step, put_fails}
 use Rattle.dl_history.proofs.Walk.{left_first, once, piece, next_told, next_passed}
 use Rattle.dl_history.proofs.operations.put_answer_lines.Goals as goal
 use Rattle.dl_history.proofs.operations.put_answer_lines.Goals.{then-is_some, else-is_some}

@@ -1,8 +1,9 @@
 use Rattle.std.proofs.Common.{◌≡◌, ◌+◌, drop}
 use Rattle.dl_ir.specs.declared.calls.Call.{Call}
 use Rattle.dl_history.specs.Histories.{joined}
-use Rattle.dl_history.specs.Report.{answer_line, each_from}
-use Rattle.dl_history.proofs.Loops.{PutSoFar}
+use Rattle.dl_history.specs.Report.{answer_line}
+use Rattle.dl_text.specs.Lists.{each_from}
+use Rattle.dl_text.proofs.Loops.{PutSoFar}
 use Rattle.dl_history.proofs.Walk.{Left}
 use Rattle.dl_history.proofs.operations.put_answer_lines.Given as goal
 

@@ -1,4 +1,4 @@
-use Rattle.dl_history.proofs.Loops.{put_fails, put_step, each_element}
+use Rattle.dl_text.proofs.Loops.{put_fails, put_step, each_element}
 use Rattle.dl_history.specs.Report.{argument_text}
 use Rattle.dl_history.proofs.operations.put_arguments.Goals as goal
 

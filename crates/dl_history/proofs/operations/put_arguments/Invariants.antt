@@ -1,7 +1,7 @@
 use Rattle.std.proofs.Common.{drop}
 use Rattle.std.specs.List.{flat_map}
 use Rattle.dl_history.specs.Report.{argument_text}
-use Rattle.dl_history.proofs.Loops.{PutSoFar}
+use Rattle.dl_text.proofs.Loops.{PutSoFar}
 use Rattle.dl_history.proofs.operations.put_arguments.Given as goal
 
 abbrev pub invariant-arguments : goal.invariant-arguments

@@ -1,7 +1,7 @@
 use Rattle.std.proofs.Common.{drop}
 use Rattle.std.specs.List.{flat_map}
 use Rattle.dl_history.specs.Report.{history_line}
-use Rattle.dl_history.proofs.Loops.{PutSoFar}
+use Rattle.dl_text.proofs.Loops.{PutSoFar}
 use Rattle.dl_history.proofs.operations.put_history_lines.Given as goal
 
 abbrev pub invariant-entries : goal.invariant-entries

@@ -1,7 +1,7 @@
 use Rattle.std.proofs.Common.{refl}
 use Rattle.dl_text.proofs.WritingLemmas.{passes_both, passes_fails, puts_both, puts_fails, puts_more}
 use Rattle.dl_instr.specs.Listing.{op_text}
-use Rattle.dl_instr.proofs.Loops.{puts_is}
+use Rattle.dl_text.proofs.Loops.{puts_is}
 use Rattle.dl_instr.proofs.Operands.{neg_text, bin_text}
 use Rattle.dl_instr.proofs.expressions.+put_operand.Goals as goal
 

@@ -1,6 +1,7 @@
 use Rattle.std.proofs.Common.{drop}
-use Rattle.dl_instr.specs.Listing.{step_line, each_from}
-use Rattle.dl_instr.proofs.Loops.{PutSoFar}
+use Rattle.dl_instr.specs.Listing.{step_line}
+use Rattle.dl_text.specs.Lists.{each_from}
+use Rattle.dl_text.proofs.Loops.{PutSoFar}
 use Rattle.dl_instr.proofs.listing.put_lines.Given as goal
 
 abbrev pub invariant-lines : goal.invariant-lines

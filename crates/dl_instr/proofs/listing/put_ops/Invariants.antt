@@ -1,6 +1,7 @@
 use Rattle.std.proofs.Common.{drop}
-use Rattle.dl_instr.specs.Listing.{op_listing, each_from}
-use Rattle.dl_instr.proofs.Loops.{PutSoFar}
+use Rattle.dl_instr.specs.Listing.{op_listing}
+use Rattle.dl_text.specs.Lists.{each_from}
+use Rattle.dl_text.proofs.Loops.{PutSoFar}
 use Rattle.dl_instr.proofs.listing.put_ops.Given as goal
 
 abbrev pub invariant-ops : goal.invariant-ops

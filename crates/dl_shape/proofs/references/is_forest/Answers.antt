@@ -31,5 +31,5 @@ returns-then-not-stands_in_forest c =
     let left : Held = c.next.new.self in
     let fails = sym c.stands_in_forest.ensures ∙ c.if-not-stands_in_forest.true in
     let some = ap (λ b. b && list_all (stands_in_forest h) left) (sym fails)
-        ∙ ap (λ (l : Held). list_all (stands_in_forest h) l) (sym c.in-Some.ensures.steps) ∙ c.loop-name.invariant in
+    ∙ ap (λ (l : Held). list_all (stands_in_forest h) l) (sym c.in-Some.ensures.steps) ∙ c.loop-name.invariant in
     (λ never. absurd (false_not_true never), λ forest. some ∙ forest_all h forest)
