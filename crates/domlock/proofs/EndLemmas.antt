@@ -4,11 +4,14 @@ use Rattle.dl_io.specs.Taken.{Taken, Took}
 use Rattle.dl_ir.specs.declared.answers.Entry.{Entry}
 use Rattle.dl_ir.specs.declared.answers.Refusal.{Refusal}
 use Rattle.dl_ir.specs.declared.modules.Module.{Module}
+use Rattle.dl_ir.specs.declared.calls.Call.{Call}
+use Rattle.dl_grammar.specs.declared.tree.Tree.{Tree}
 use Rattle.domlock.specs.declared.status.Status.{Status}
 use Rattle.domlock.specs.declared.status.Status.TheVariants as statuses
 use Rattle.domlock.specs.Causes.{NoModule, NoCalls, Refuses, Cut}
-use Rattle.domlock.specs.Promise.{Ran, Ends, Prints}
+use Rattle.domlock.specs.Promise.{Ran, Finishes, Ends, Prints}
 use Rattle.domlock.specs.Reading.{ReadCause, IsWithin}
+use Rattle.domlock.specs.Texts.{Spells}
 use Rattle.domlock.specs.Words.{Text, Task, limit_of, task_of_words}
 
 -- a status with which files are refused
@@ -44,7 +47,7 @@ calls_refuse (NoCalls.at_fault line why text is told short is_fault within) = su
 
 refuses : {task : Task} {old new : Source} {status : Status} → Refuses task old new status → IsRefusal status
 refuses (Refuses.no_module cause) = module_refuses cause
-refuses (Refuses.no_calls source before at path file files is cause) = calls_refuse cause
+refuses (Refuses.no_calls tree source before at path file files is cause) = calls_refuse cause
 refuses (Refuses.no_memory is within) = subst IsRefusal (sym is) tt
 
 -- what is printed is printed by one of two statuses
@@ -78,9 +81,9 @@ refused_long : {task : Task} {old new : Source} {status : Status} (file : ℕ) �
 refused_long {task = task} {old = old} {new = new} {status = status} file (Refuses.no_module (NoModule.unread cause)) is more = read_long status 0 task.first old new file cause is more
 refused_long {new = new} file (Refuses.no_module (NoModule.no_memory e within)) is more = within_long new file within is more
 refused_long {new = new} file (Refuses.no_module (NoModule.at_fault line why text e told short is_fault within)) is more = within_long new file within is more
-refused_long {old = old} {new = new} {status = status} file (Refuses.no_calls source before at path source_file files is_path (NoCalls.unread cause)) is more = read_long status (at + 1) path old new file cause is more
-refused_long {new = new} file (Refuses.no_calls source before at path source_file files is_path (NoCalls.no_memory e within)) is more = within_long new file within is more
-refused_long {new = new} file (Refuses.no_calls source before at path source_file files is_path (NoCalls.at_fault line why text e told short is_fault within)) is more = within_long new file within is more
+refused_long {old = old} {new = new} {status = status} file (Refuses.no_calls tree source before at path source_file files is_path (NoCalls.unread cause)) is more = read_long status (at + 1) path old new file cause is more
+refused_long {new = new} file (Refuses.no_calls tree source before at path source_file files is_path (NoCalls.no_memory e within)) is more = within_long new file within is more
+refused_long {new = new} file (Refuses.no_calls tree source before at path source_file files is_path (NoCalls.at_fault line why text e told short is_fault within)) is more = within_long new file within is more
 refused_long {new = new} file (Refuses.no_memory e within) is more = within_long new file within is more
 
 -- what is in two like texts is the same
@@ -108,10 +111,19 @@ refused_most : {task : Task} {old new : Source} {status : Status} (file : ℕ) �
 refused_most {task = task} {old = old} {new = new} {status = status} file (Refuses.no_module (NoModule.unread cause)) is = read_most status 0 task.first old new file cause is
 refused_most {new = new} file (Refuses.no_module (NoModule.no_memory e within)) is = within_most new file within is
 refused_most {new = new} file (Refuses.no_module (NoModule.at_fault line why text e told short is_fault within)) is = within_most new file within is
-refused_most {old = old} {new = new} {status = status} file (Refuses.no_calls source before at path source_file files is_path (NoCalls.unread cause)) is = read_most status (at + 1) path old new file cause is
-refused_most {new = new} file (Refuses.no_calls source before at path source_file files is_path (NoCalls.no_memory e within)) is = within_most new file within is
-refused_most {new = new} file (Refuses.no_calls source before at path source_file files is_path (NoCalls.at_fault line why text e told short is_fault within)) is = within_most new file within is
+refused_most {old = old} {new = new} {status = status} file (Refuses.no_calls tree source before at path source_file files is_path (NoCalls.unread cause)) is = read_most status (at + 1) path old new file cause is
+refused_most {new = new} file (Refuses.no_calls tree source before at path source_file files is_path (NoCalls.no_memory e within)) is = within_most new file within is
+refused_most {new = new} file (Refuses.no_calls tree source before at path source_file files is_path (NoCalls.at_fault line why text e told short is_fault within)) is = within_most new file within is
 refused_most {new = new} file (Refuses.no_memory e within) is = within_most new file within is
+
+-- a call of which the files were read ends as its command finishes
+pub ends_finished : {words : List Text} {old new : Source} {before after : Taken} {status : Status} {history : List Entry} {refusals : List Refusal}
+    (task : Task) {tree : Tree} {source : Module} {all : List (List Call)} → task_of_words words ≡ Some task → Spells old task tree source all → IsWithin new →
+    Finishes task.verb tree source all task.places before after status history refusals → Ends words old new before after status history refusals
+ends_finished task is_task spells within (Finishes.no_memory is same_taken no_history no_refusals) =
+    Ends.refused task is_task (Refuses.no_memory is within) same_taken no_history no_refusals
+ends_finished task {tree = tree} {source = source} {all = all} is_task spells within (Finishes.wrote text writes prints) =
+    Ends.ran text (record { task = task; is_task = is_task; tree = tree; source = source; all = all; spells = spells; writes = writes }) within prints
 
 -- the clauses of a call that ends so
 module _ {words : List Text} {old new : Source} {before after : Taken} {status : Status} {history : List Entry} {refusals : List Refusal} where

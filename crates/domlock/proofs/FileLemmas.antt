@@ -7,6 +7,7 @@ use Rattle.std.proofs.Math.Nat.{le_trans}
 use Rattle.dl_io.specs.Source.{Source, SameFiles, Tells}
 use Rattle.dl_ir.specs.declared.modules.Module.{Module}
 use Rattle.dl_ir.specs.declared.calls.Call.{Call}
+use Rattle.dl_grammar.specs.declared.tree.Tree.{Tree}
 use Rattle.dl_ir.specs.CallForms.{AreCallsOf}
 use Rattle.domlock.specs.declared.status.Status.{Status}
 use Rattle.domlock.specs.declared.status.Status.TheVariants as statuses
@@ -104,8 +105,8 @@ files_before source start now (p ∷ paths) [] same are = elim are [ ]
 files_before source start now (p ∷ paths) (c ∷ all) same are = (file_before same are.0, files_before source start now paths all same are.1)
 
 -- why the files behind the module were not taken is why those of the command were not
-pub refuses_calls : {source : Module} {start now new : Source} {task : Task} {status : Status} → AfterReading start now → IsModuleFile start task.first source →
+pub refuses_calls : {tree : Tree} {source : Module} {start now new : Source} {task : Task} {status : Status} → AfterReading start now → IsModuleFile start task.first tree source →
     StopsAt source task.rest now new status → Refuses task start new status
-refuses_calls {source = source} {start = start} {now = now} {task = task} after file (StopsAt.no_calls before at path files is cause) =
-    Refuses.no_calls source before at path file (files_before source start now (take at task.rest) before after.same files) (rw add-one is) (no_calls_before after cause)
+refuses_calls {tree = tree} {source = source} {start = start} {now = now} {task = task} after file (StopsAt.no_calls before at path files is cause) =
+    Refuses.no_calls tree source before at path file (files_before source start now (take at task.rest) before after.same files) (rw add-one is) (no_calls_before after cause)
 refuses_calls after file (StopsAt.no_memory is within) = Refuses.no_memory is within

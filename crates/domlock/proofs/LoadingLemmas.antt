@@ -40,9 +40,9 @@ ops_cause {source = source} {text = text} found (CallsCause.at_fault line w is i
 ops_cause found (CallsCause.no_memory is is_fault) = OpsCause.no_memory is
 
 -- why a module that was read to its end is not taken
-pub no_source : (old new : Source) (path text : List ℕ) (r : Result Module Status) → Tells (old.bytes_at path) text → length text ≤ limit_of 0 → IsWithin new →
+pub no_source : {T : Type 0} (old new : Source) (path text : List ℕ) (r : Result T Status) → Tells (old.bytes_at path) text → length text ≤ limit_of 0 → IsWithin new →
     IfErr r (ParseCause text) → IfErr r (NoModule path old new)
-no_source old new path text (Ok source) told short within cause = tt
+no_source old new path text (Ok found) told short within cause = tt
 no_source old new path text (Err status) told short within (ParseCause.at_fault line w is is_fault) = NoModule.at_fault line w text is told short is_fault within
 no_source old new path text (Err status) told short within (ParseCause.no_memory is) = NoModule.no_memory is within
 

@@ -11,6 +11,7 @@ use Rattle.dl_ir.specs.declared.answers.Entry.{Entry}
 use Rattle.dl_ir.specs.declared.answers.Refusal.{Refusal}
 use Rattle.dl_ir.specs.declared.modules.Module.{Module}
 use Rattle.dl_ir.specs.declared.calls.Call.{Call}
+use Rattle.dl_grammar.specs.declared.tree.Tree.{Tree}
 use Rattle.domlock.specs.declared.status.Status.{Status}
 use Rattle.domlock.specs.declared.status.Status.TheVariants as statuses
 use Rattle.domlock.specs.Causes.{NoCalls, Refuses}
@@ -77,9 +78,9 @@ stopped_ends {status = status} (Refuses.no_module cause) file answer (CallsFor.s
     subst (λ f. EndsWith f answer status) (sym is) (module_refused refused cause)
 stopped_ends (Refuses.no_module cause) file answer (CallsFor.calls_file source at path is tells before is_path refused) =
     before_it (omega arith) (module_untaken tells cause)
-stopped_ends (Refuses.no_calls source before at path source_file files is_path cause) file answer (CallsFor.source_file is refused) =
+stopped_ends (Refuses.no_calls tree source before at path source_file files is_path cause) file answer (CallsFor.source_file is refused) =
     module_not_taken refused source_file
-stopped_ends {task = task} {old = old} {new = new} {status = status} (Refuses.no_calls found before stop stopped source_file files is_stopped cause) file answer (CallsFor.calls_file source at path is tells told is_path refused) =
+stopped_ends {task = task} {old = old} {new = new} {status = status} (Refuses.no_calls tree found before stop stopped source_file files is_stopped cause) file answer (CallsFor.calls_file source at path is tells told is_path refused) =
     let same : source ≡ found = told_source tells source_file in
     let stops : Stopped source old new task.rest stop status = subst (λ m. Stopped m old new task.rest stop status) (sym same)
     (record { before = before; path = stopped; are = files; is_path = rw add-one at is_stopped; cause = cause }) in
@@ -87,7 +88,7 @@ stopped_ends {task = task} {old = old} {new = new} {status = status} (Refuses.no
     subst (λ f. EndsWith f answer status) (sym is) (refused_at called stops)
 
 -- where the files spell what they should, nothing calls for a refusal
-none_called : {P : Type 0} {task : Task} {old : Source} {source : Module} {all : List (List Call)} {file : ℕ} {answer : Status} → Spells old task source all →
+none_called : {P : Type 0} {task : Task} {old : Source} {tree : Tree} {source : Module} {all : List (List Call)} {file : ℕ} {answer : Status} → Spells old task tree source all →
     CallsFor old task file answer → P
 none_called spells (CallsFor.source_file is refused) = module_not_taken refused spells.source_file
 none_called {task = task} {old = old} {source = found} {all = all} {file = file} {answer = answer} spells (CallsFor.calls_file source at path is tells told is_path refused) =
@@ -105,7 +106,7 @@ stopped_in_order : {task : Task} {old new : Source} {status : Status} → Refuse
 stopped_in_order (Refuses.no_memory is within) order = is
 stopped_in_order {task = task} {old = old} (Refuses.no_module cause) order =
     no_fault (module_untaken order.source_file cause) (All-head (Contains old.sound_paths) task.first task.rest order.sound)
-stopped_in_order {task = task} {old = old} {status = status} (Refuses.no_calls found before stop path source_file files is_path cause) order =
+stopped_in_order {task = task} {old = old} {status = status} (Refuses.no_calls tree found before stop path source_file files is_path cause) order =
     let same : order.source ≡ found = told_source order.source_file source_file in
     let stopped : slice_get task.rest stop ≡ Some path = rw add-one at is_path in
     let tells : TellsCalls found old path = subst (λ m. TellsCalls m old path) same (all_at (TellsCalls order.source old) task.rest stop path order.call_files stopped) in
@@ -133,7 +134,7 @@ module _ {words : List Text} {old new : Source} {before after : Taken} {status :
   ends_as_told (Ends.ran text ran within prints) task is_task file answer calls =
       let is_found = ran.is_task in
       let same : ran.task ≡ task = cc in
-      none_called (subst (λ t. Spells old t ran.source ran.all) same ran.spells) calls
+      none_called (subst (λ t. Spells old t ran.tree ran.source ran.all) same ran.spells) calls
 
   pub ends_complete : Ends words old new before after status history refusals → (task : Task) → task_of_words words ≡ Some task → IsInOrder old task →
       (Rose before.faults after.faults → ⊥) → (status ≡ statuses.Done) ⊎ (status ≡ statuses.Memory)

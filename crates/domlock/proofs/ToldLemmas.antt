@@ -5,6 +5,7 @@ use Rattle.std.proofs.lemmas.Bool.{ne_eqb}
 use Rattle.dl_io.specs.Source.{Source, Tells}
 use Rattle.dl_ir.specs.declared.modules.Module.{Module}
 use Rattle.dl_ir.specs.declared.calls.Call.{Call}
+use Rattle.dl_grammar.specs.declared.tree.Tree.{Tree}
 use Rattle.domlock.specs.declared.status.Status.{Status}
 use Rattle.domlock.specs.declared.status.Status.TheVariants as statuses
 use Rattle.domlock.specs.Causes.{NoModule, NoCalls}
@@ -103,13 +104,18 @@ module _ {path : Text} {old new : Source} {status : Status} where
       let same = same_text _ text found told.told tells in
       EndsWith.answered (is ∙ one_ops_fault source found file other line otherwise why found_fault (subst (λ t. IsOpsFault source t line why) same is_fault) ∙ sym is_answer)
 
+-- the text of a module's file
+module_text : {files : Source} {path : Text} {tree : Tree} {source : Module} (file : IsModuleFile files path tree source) → IsModuleText file.text source
+module_text {tree = tree} file = record { tree = tree; spelled = file.spelled; typed = file.typed }
+
 -- a file for which a refusal is called was not taken
-pub module_not_taken : {P : Type 0} {files : Source} {path : Text} {source : Module} {answer : Status} → RefusesModule files path answer → IsModuleFile files path source → P
+pub module_not_taken : {P : Type 0} {files : Source} {path : Text} {tree : Tree} {source : Module} {answer : Status} → RefusesModule files path answer →
+    IsModuleFile files path tree source → P
 module_not_taken (RefusesModule.too_long text told long is_answer) file =
     too_much file.text text (limit_of 0) (sym (same_text _ text file.text told file.told)) file.short long
 module_not_taken {source = source} (RefusesModule.at_fault text line why told is_fault is_answer) file =
     let same = same_text _ text file.text told.told file.told in
-    module_or_fault file.text source line why file.spells (subst (λ t. IsModuleFault t line why) same is_fault)
+    module_or_fault file.text source line why (module_text file) (subst (λ t. IsModuleFault t line why) same is_fault)
 
 pub calls_not_taken : {P : Type 0} {files : Source} {path : Text} {source : Module} {file : ℕ} {answer : Status} {calls : List Call} → 0 < file →
     RefusesCalls source files file path answer → IsFile source files path calls → P
@@ -120,10 +126,10 @@ calls_not_taken {source = source} {calls = calls} more (RefusesCalls.at_fault te
     calls_or_fault source found.text calls line why found.spells (subst (λ t. IsOpsFault source t line why) same is_fault)
 
 -- the module that is told is the one that is found
-pub told_source : {files : Source} {path : Text} {a b : Module} → TellsModule files path a → IsModuleFile files path b → a ≡ b
+pub told_source : {files : Source} {path : Text} {tree : Tree} {a b : Module} → TellsModule files path a → IsModuleFile files path tree b → a ≡ b
 told_source {a = a} {b = b} tells file =
     let same = same_text _ tells.text file.text tells.is_told.told file.told in
-    one_source file.text a b (subst (λ t. IsModuleText t a) same tells.spells) file.spells
+    one_source file.text a b (subst (λ t. IsModuleText t a) same tells.spells) (module_text file)
 
 -- the file at a place
 pub record Found (source : Module) (files : Source) (path : Text) : Type 0 where

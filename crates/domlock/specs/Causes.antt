@@ -4,6 +4,7 @@ use Rattle.dl_io.specs.Source.{Source, Tells}
 use Rattle.dl_io.specs.Taken.{Taken, Took}
 use Rattle.dl_ir.specs.declared.modules.Module.{Module}
 use Rattle.dl_ir.specs.declared.calls.Call.{Call}
+use Rattle.dl_grammar.specs.declared.tree.Tree.{Tree}
 use Rattle.domlock.specs.declared.status.Status.{Status}
 use Rattle.domlock.specs.declared.status.Status.TheVariants as statuses
 use Rattle.domlock.specs.declared.status.ModuleWhy.{ModuleWhy}
@@ -31,7 +32,7 @@ pub data NoCalls (source : Module) (file : ℕ) (path : Text) (old new : Source)
 -- why the files of a command were not taken: the module was not, or it was and so were the files before one that was not
 pub data Refuses (task : Task) (old new : Source) (status : Status) : Type 0 where
   no_module : NoModule task.first old new status → Refuses task old new status
-  no_calls : (source : Module) (before : List (List Call)) (at : ℕ) (path : Text) → IsModuleFile old task.first source
+  no_calls : (tree : Tree) (source : Module) (before : List (List Call)) (at : ℕ) (path : Text) → IsModuleFile old task.first tree source
       → AreFiles source old (take at task.rest) before → path_of task (at + 1) ≡ Some path
       → NoCalls source (at + 1) path old new status → Refuses task old new status
   no_memory : status ≡ statuses.Memory → IsWithin new → Refuses task old new status

@@ -1,4 +1,4 @@
-use Rattle.std.specs.Prelude.{◌≡◌, ℕ, List, [], Some, None, All}
+use Rattle.std.specs.Prelude.{◌≡◌, ℕ, List, [], ◌++◌, Some, None, All}
 use Rattle.dl_io.specs.Source.{Source}
 use Rattle.dl_io.specs.Taken.{Taken, Took}
 use Rattle.dl_ir.specs.declared.modules.Module.{Module}
@@ -12,12 +12,18 @@ use Rattle.dl_shape.specs.Pool.{IsLawfulPool}
 use Rattle.dl_shape.specs.Replay.{IsLegal, replayed}
 use Rattle.dl_closed.specs.Unsealed.{IsUnsealed}
 use Rattle.dl_history.specs.Report.{report}
+use Rattle.dl_grammar.specs.declared.tree.Tree.{Tree}
+use Rattle.dl_print.specs.Canonical.{canonical}
+use Rattle.dl_instr.specs.Code.{code}
+use Rattle.dl_instr.specs.Listing.{listing}
 use Rattle.domlock.specs.declared.status.Status.{Status}
 use Rattle.domlock.specs.declared.status.Status.TheVariants as statuses
 use Rattle.domlock.specs.Causes.{Refuses, Cut}
 use Rattle.domlock.specs.Reading.{IsWithin}
 use Rattle.domlock.specs.Texts.{Spells}
 use Rattle.domlock.specs.Words.{Text, Task, task_of_words}
+use Rattle.domlock.specs.declared.words.Verb.{Verb}
+use Rattle.domlock.specs.declared.words.Verb.TheVariants as verbs
 
 -- what running the calls of a module came to, from its start heap and with so many places: each operation stands once, in
 -- the history or among the refusals; every answer is that of the serial meaning; the pool is lawful; and where every serial
@@ -32,16 +38,24 @@ pub record IsRun (source : Module) (all : List (List Call)) (places : ℕ) (hist
 abbrev pub report_of : Module → List (List Call) → List Entry → List Refusal → Text
 report_of source all history refusals = report source all history refusals (replayed source all (start_objects source) history)
 
--- the words are a command whose files spell a module and its calls; the history and the refusals are a run of these, and
--- the text is its report
+-- what a command writes of a tree that is a module, and of calls of it: `serial` the report of a run of them, and `show`,
+-- which carries out nothing, the canonical text of the tree and the listing of the module's code
+abbrev pub Writes : Verb → Tree → Module → List (List Call) → ℕ → List Entry → List Refusal → Text → Type 0
+Writes verbs.Serial tree source all places history refusals text =
+    IsRun source all places history refusals × (text ≡ report_of source all history refusals)
+Writes verbs.Show tree source all places history refusals text =
+    (history ≡ []) × (refusals ≡ []) × (text ≡ canonical tree ++ listing (code source))
+
+-- the words are a command whose files spell a tree that is a module, and its calls; the text is what the command writes of
+-- these, with this history and these refusals
 pub record Ran (words : List Text) (files : Source) (history : List Entry) (refusals : List Refusal) (text : Text) : Type 0 where
   pub task : Task
   pub is_task : task_of_words words ≡ Some task
+  pub tree : Tree
   pub source : Module
   pub all : List (List Call)
-  pub spells : Spells files task source all
-  pub run : IsRun source all task.places history refusals
-  pub is_report : text ≡ report_of source all history refusals
+  pub spells : Spells files task tree source all
+  pub writes : Writes task.verb tree source all task.places history refusals text
 
 -- what the sink took of a text
 abbrev pub Prints : Status → Text → Taken → Taken → Type 0
@@ -54,8 +68,15 @@ Prints (statuses.ModuleFault line why) text old new = ⊥
 Prints (statuses.OpsFault file line why) text old new = ⊥
 Prints statuses.Memory text old new = ⊥
 
--- how a call ends: the words are no command, or the files are refused, or memory runs out, or the report is written as far
--- as the sink takes it
+-- how a command ends once its files are read: memory runs out, or what it writes is written as far as the sink takes it
+pub data Finishes (verb : Verb) (tree : Tree) (source : Module) (all : List (List Call)) (places : ℕ) (taken_before taken_after : Taken) (status : Status) (history : List Entry) (refusals : List Refusal) : Type 0 where
+  no_memory : status ≡ statuses.Memory → taken_after ≡ taken_before → history ≡ [] → refusals ≡ []
+      → Finishes verb tree source all places taken_before taken_after status history refusals
+  wrote : (text : Text) → Writes verb tree source all places history refusals text → Prints status text taken_before taken_after
+      → Finishes verb tree source all places taken_before taken_after status history refusals
+
+-- how a call ends: the words are no command, or the files are refused, or memory runs out, or what the command writes is
+-- written as far as the sink takes it
 pub data Ends (words : List Text) (old new : Source) (taken_before taken_after : Taken) (status : Status) (history : List Entry) (refusals : List Refusal) : Type 0 where
   usage : status ≡ statuses.Usage → task_of_words words ≡ None → new ≡ old → taken_after ≡ taken_before → history ≡ [] → refusals ≡ []
       → Ends words old new taken_before taken_after status history refusals

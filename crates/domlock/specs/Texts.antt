@@ -73,14 +73,15 @@ AreFiles source files [] (calls ∷ rest) = ⊥
 AreFiles source files (path ∷ paths) [] = ⊥
 AreFiles source files (path ∷ paths) (calls ∷ rest) = IsFile source files path calls × AreFiles source files paths rest
 
--- the bytes at the path of a module, at most as many as it may have, are its text
-pub record IsModuleFile (files : Source) (path : Text) (source : Module) : Type 0 where
+-- the bytes at the path of a module, at most as many as it may have, spell this tree, and the tree is this module
+pub record IsModuleFile (files : Source) (path : Text) (tree : Tree) (source : Module) : Type 0 where
   pub text : Text
   pub told : Tells (files.bytes_at path) text
   pub short : length text ≤ limit_of 0
-  pub spells : IsModuleText text source
+  pub spelled : SpellsTree text tree
+  pub typed : Types tree source
 
--- the files of a command spell a module and operation files with these calls
-pub record Spells (files : Source) (task : Task) (source : Module) (all : List (List Call)) : Type 0 where
-  pub source_file : IsModuleFile files task.first source
+-- the files of a command spell a tree that is a module, and operation files with these calls
+pub record Spells (files : Source) (task : Task) (tree : Tree) (source : Module) (all : List (List Call)) : Type 0 where
+  pub source_file : IsModuleFile files task.first tree source
   pub call_files : AreFiles source files task.rest all

@@ -32,11 +32,22 @@ places_of [] = Some 4096
 places_of (option ∷ number ∷ []) = if bytes_eq option (codes "--places") then places_in number else None
 places_of _ = None
 
--- the command that the words give, where they are good: `serial`, a module, one operation file, and the words on places
+-- the words behind `serial`: a module, one operation file, and the words on places
+abbrev pub serial_task : List Text → Option Task
+serial_task (first ∷ calls ∷ last) =
+    option_map (λ places. record { verb = verbs.Serial; first = first; rest = calls ∷ []; places = places }) (places_of last)
+serial_task _ = None
+
+-- the words behind `show`: a module, and the words on places
+abbrev pub show_task : List Text → Option Task
+show_task (first ∷ last) = option_map (λ places. record { verb = verbs.Show; first = first; rest = []; places = places }) (places_of last)
+show_task _ = None
+
+-- the command that the words give, where they are good
 abbrev pub task_of_words : List Text → Option Task
-task_of_words (command ∷ first ∷ calls ∷ last) =
-    if bytes_eq command (codes "serial")
-    then option_map (λ places. record { verb = verbs.Serial; first = first; rest = calls ∷ []; places = places }) (places_of last)
+task_of_words (command ∷ words) =
+    if bytes_eq command (codes "serial") then serial_task words
+    else if bytes_eq command (codes "show") then show_task words
     else None
 task_of_words _ = None
 

@@ -3,15 +3,17 @@ ghost use Rattle.dl_ir.specs.CallForms.{AreCallsOf};
 ghost use Rattle.dl_ir.specs.Checked.{IsChecked};
 ghost use Rattle.domlock.specs.Causes.{NoModule, NoCalls, Refuses};
 ghost use Rattle.domlock.specs.Reading.{AfterReading, IsWithin};
-ghost use Rattle.domlock.specs.Texts.{IsModuleText, IsModuleFile, IsFile, AreFiles, Spells};
+ghost use Rattle.domlock.specs.Texts.{IsModuleFile, IsFile, AreFiles, Spells};
 ghost use Rattle.domlock.specs.Words.{task_of};
+ghost use Rattle.dl_grammar.specs.Texts.{Spells as SpellsTree};
 ghost use Rattle.dl_syntax.specs.Calls.{IsCallsFile};
+ghost use Rattle.dl_types.specs.Typing.{Types};
 ghost use Rattle.domlock.specs.Loading.{syntax_status, type_status, ParseCause, CallsCause, OpsCause, StopsAt};
 
 use crate::reading::read_file;
 use crate::status::{ModuleWhy, OpsWhy, Status};
 use crate::words::Command;
-use dl_grammar::{SyntaxFault, read_module};
+use dl_grammar::{SyntaxFault, Tree, read_module};
 use dl_io::Files;
 use dl_ir::{Calls, Module};
 use dl_syntax::{CallsFault, read_calls};
@@ -55,11 +57,19 @@ fn status_of_types(fault: TypeFault) -> Status
     }
 }
 
-// The module that a text is.
-fn parse_module(alloc: Global, text: &[u8]) -> Result<Module, Status>
+// A module, with the tree that it was made of.
+#[derive(Drop)]
+struct Parsed {
+    tree: Tree,
+    source: Module,
+}
+
+// The tree that a text spells, and the module that the tree is.
+fn parse_module(alloc: Global, text: &[u8]) -> Result<Parsed, Status>
     requires { length text.now ≤ 262144 }
-    ensures ok { IfOk result (IsModuleText text.now) }
-    ensures checked { IfOk result IsChecked }
+    ensures spelled { IfOk result (λ parsed. SpellsTree text.now parsed.tree) }
+    ensures typed { IfOk result (λ parsed. Types parsed.tree parsed.source) }
+    ensures checked { IfOk result (λ parsed. IsChecked parsed.source) }
     ensures cause { IfErr result (ParseCause text.now) }
 {
     let tree = match read_module(alloc, text) {
@@ -67,7 +77,7 @@ fn parse_module(alloc: Global, text: &[u8]) -> Result<Module, Status>
         Err(fault) => return Err(status_of_syntax(fault)),
     };
     match check(alloc, &tree) {
-        Ok(source) => Ok(source),
+        Ok(source) => Ok(Parsed { tree, source }),
         Err(fault) => Err(status_of_types(fault)),
     }
 }
@@ -131,9 +141,9 @@ fn parse_calls(alloc: Global, source: &Module, file: u32, text: &[u8]) -> Result
 }
 
 // Reads the module of a command.
-fn read_source<F: Files>(alloc: Global, files: &mut F, path: &str) -> Result<Module, Status>
-    ensures ok { IfOk result (IsModuleFile (F.source files.old) path.now) }
-    ensures checked { IfOk result IsChecked }
+fn read_source<F: Files>(alloc: Global, files: &mut F, path: &str) -> Result<Parsed, Status>
+    ensures ok { IfOk result (λ parsed. IsModuleFile (F.source files.old) path.now parsed.tree parsed.source) }
+    ensures checked { IfOk result (λ parsed. IsChecked parsed.source) }
     ensures within { OnOk result (IsWithin (F.source files.new)) }
     ensures cause { IfErr result (NoModule path.now (F.source files.old) (F.source files.new)) }
     ensures after { AfterReading (F.source files.old) (F.source files.new) }
@@ -199,9 +209,10 @@ fn read_all_calls<F: Files>(
     Ok(all)
 }
 
-/// What the files of a command say: its module, and the calls of each operation file.
+/// What the files of a command say: the tree of the module's text, the module, and the calls of each operation file.
 #[derive(Drop)]
 pub struct Input {
+    pub tree: Tree,
     pub source: Module,
     pub all: Vec<Calls>,
 }
@@ -213,19 +224,19 @@ pub fn read_input<F: Files>(
     command: &Command<'_>,
 ) -> Result<Input, Status>
     requires { length command.now.rest.now ≤ 64 }
-    ensures spells { IfOk result (λ input. Spells (F.source files.old) (task_of command.now) input.source input.all.items) }
+    ensures spells { IfOk result (λ input. Spells (F.source files.old) (task_of command.now) input.tree input.source input.all.items) }
     ensures checked { IfOk result (λ input. IsChecked input.source) }
     ensures calls { IfOk result (λ input. All (AreCallsOf input.source) input.all.items) }
     ensures within { OnOk result (IsWithin (F.source files.new)) }
     ensures cause { IfErr result (Refuses (task_of command.now) (F.source files.old) (F.source files.new)) }
     ensures after { AfterReading (F.source files.old) (F.source files.new) }
 {
-    let source = match read_source(alloc, files, command.first) {
-        Ok(source) => source,
+    let Parsed { tree, source } = match read_source(alloc, files, command.first) {
+        Ok(parsed) => parsed,
         Err(status) => return Err(status),
     };
     match read_all_calls(alloc, files, &source, command.rest) {
-        Ok(all) => Ok(Input { source, all }),
+        Ok(all) => Ok(Input { tree, source, all }),
         Err(status) => Err(status),
     }
 }

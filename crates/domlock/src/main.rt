@@ -1,10 +1,11 @@
-//! Runs operation files of a module over a heap and prints a report. `docs/LANGUAGE.md` tells the files, and
-//! `docs/FORMATS.md` what is printed.
+//! Runs operation files of a module over a heap and prints a report, or prints a module and its code.
+//! `docs/LANGUAGE.md` tells the files, and `docs/FORMATS.md` what is printed.
 #![tactic(auto)]
 
 mod loading;
 mod reading;
 mod run;
+mod show;
 mod status;
 #[cfg(test)]
 mod tests;

@@ -36,6 +36,10 @@ fn call(
     Ok(domlock_still(alloc, &words, &mut files, sink))
 }
 
+// The listing of the code of the counter module.
+const COUNTER_CODE: &[u8] =
+    b"code\nop add\n0 read r.val\n1 set v\n2 eval v + n\n3 set v\n4 eval v\n5 write r.val\n6 give v\n7 give 0\nop get\n0 read r.val\n1 set v\n2 give v\n3 give 0\nend\n";
+
 // The line that the program prints of a status.
 fn line_of(alloc: Global, status: &Status) -> Result<MemSink, Fail> {
     let mut sink = MemSink::new(alloc, 100, &[], 200)?;
@@ -101,7 +105,7 @@ fn serial_overflows(rt: HostRuntime) -> Result<(), Fail> {
 
 #[test]
 fn each_refusal_has_its_line_and_code(rt: HostRuntime) -> Result<(), Fail> {
-    let table: [(&str, &[u8], &[u8], &[u8], u8); 12] = [
+    let table: [(&str, &[u8], &[u8], &[u8], u8); 18] = [
         (
             "serial m",
             COUNTER,
@@ -117,7 +121,21 @@ fn each_refusal_has_its_line_and_code(rt: HostRuntime) -> Result<(), Fail> {
             1,
         ),
         (
+            "show m o",
+            COUNTER,
+            b"",
+            b"domlock: usage: domlock COMMAND FIRST [REST..] [--places N]\n",
+            1,
+        ),
+        (
             "serial x o",
+            COUNTER,
+            b"",
+            b"domlock: read fault in file 0\n",
+            2,
+        ),
+        (
+            "show x",
             COUNTER,
             b"",
             b"domlock: read fault in file 0\n",
@@ -153,6 +171,34 @@ fn each_refusal_has_its_line_and_code(rt: HostRuntime) -> Result<(), Fail> {
         ),
         (
             "serial m o",
+            b"domlock 1\nroot R 1 {\n  a: int, a: int }\n",
+            b"",
+            b"domlock: module line 3: Twice\n",
+            4,
+        ),
+        (
+            "show m",
+            b"domlock 1\n",
+            b"",
+            b"domlock: module line 1: NoRoots\n",
+            4,
+        ),
+        (
+            "show m",
+            b"domlock 1\nroot R 1 { a: int,\n",
+            b"",
+            b"domlock: module line 2: Expected\n",
+            4,
+        ),
+        (
+            "show m",
+            b"domlock 1\nroot R 1025 { }\n",
+            b"",
+            b"domlock: module line 2: Limit Roots\n",
+            4,
+        ),
+        (
+            "show m --places 7",
             b"domlock 1\nroot R 1 {\n  a: int, a: int }\n",
             b"",
             b"domlock: module line 3: Twice\n",
@@ -229,6 +275,18 @@ fn words_that_are_no_command(rt: HostRuntime) -> Result<(), Fail> {
         "serial m o --places=1",
         "serial m o --places 1 1",
         "serial --places 1 m o",
+        "show",
+        "show m o",
+        "show m m",
+        "show m o --places 7",
+        "show m --places",
+        "show m --places 0",
+        "show m --places 65537",
+        "show m --place 1",
+        "show m --places 1 1",
+        "show --places 7 m",
+        "Show m",
+        "shows m",
     ];
     for line in lines {
         let words = words_of(rt.alloc(), line)?;
@@ -250,6 +308,9 @@ fn words_with_a_number_of_places(rt: HostRuntime) -> Result<(), Fail> {
         "serial m o --places 1",
         "serial m o --places 65536",
         "serial m o --places 0000000000000000000000007",
+        "show m",
+        "show m --places 1",
+        "show m --places 65536",
     ];
     for line in lines {
         let words = words_of(rt.alloc(), line)?;
@@ -418,9 +479,11 @@ fn a_module_at_its_limit_and_one_byte_longer(rt: HostRuntime) -> Result<(), Fail
     let outcome = call(rt.alloc(), "serial m o", &module, b"", &mut sink)?;
     assert_eq!(rt; outcome.status, Status::Done);
     module.push(b' ')?;
-    let outcome = call(rt.alloc(), "serial m o", &module, b"", &mut sink)?;
-    assert_eq!(rt; outcome.status, Status::TooLong { file: 0 });
-    assert_eq!(rt; exit_code(&outcome.status), 3);
+    for line in ["serial m o", "show m"] {
+        let outcome = call(rt.alloc(), line, &module, b"", &mut sink)?;
+        assert_eq!(rt; outcome.status, Status::TooLong { file: 0 });
+        assert_eq!(rt; exit_code(&outcome.status), 3);
+    }
     Ok(())
 }
 
@@ -474,5 +537,53 @@ fn a_call_that_fails_is_of_its_file(rt: HostRuntime) -> Result<(), Fail> {
     }
     assert_eq!(rt; status_at_fault(rt.alloc(), 1000, &[7])?, Status::Done);
     assert_eq!(rt; status_at_fault(rt.alloc(), 1, &[])?, Status::Done);
+    Ok(())
+}
+
+#[test]
+fn shows_the_counter_and_its_code(rt: HostRuntime) -> Result<(), Fail> {
+    let mut want = Vec::from_slice(rt.alloc(), COUNTER)?;
+    want.extend_from_slice(COUNTER_CODE)?;
+    for line in ["show m", "show m --places 7"] {
+        let mut sink = MemSink::new(rt.alloc(), 1000, &[], 1000)?;
+        let outcome = call(rt.alloc(), line, COUNTER, b"", &mut sink)?;
+        assert_eq!(rt; outcome.status, Status::Done);
+        assert_eq!(rt; sink.bytes(), want.as_slice());
+        assert_eq!(rt; outcome.history.entries().len(), 0);
+        assert_eq!(rt; outcome.refusals.len(), 0);
+    }
+    Ok(())
+}
+
+#[test]
+fn shows_a_module_in_its_canonical_form(rt: HostRuntime) -> Result<(), Fail> {
+    let module =
+        b"domlock 1 root R 1{a:int}# a comment\n\nop f(r:R)\nallocs 00 fuel 0 { if(1<2){r.a=((1));}else{return 2;} }";
+    let want: &[u8] =
+        b"domlock 1\nroot R 1 { a: int }\nop f(r: R) allocs 0 fuel 0 {\n  if (1 < 2) {\n    r.a = 1;\n  } else {\n    return 2;\n  }\n}\ncode\nop f\n0 test 1 < 2 else 4\n1 eval 1\n2 write r.a\n3 jump 5\n4 give 2\n5 give 0\nend\n";
+    let mut sink = MemSink::new(rt.alloc(), 1000, &[], 1000)?;
+    let outcome = call(rt.alloc(), "show m", module, b"", &mut sink)?;
+    assert_eq!(rt; outcome.status, Status::Done);
+    assert_eq!(rt; sink.bytes(), want);
+    Ok(())
+}
+
+#[test]
+fn a_sink_that_fails_takes_a_part_of_what_is_shown(rt: HostRuntime) -> Result<(), Fail> {
+    // In the module, and two bytes into the listing.
+    let mut long = Vec::from_slice(rt.alloc(), COUNTER)?;
+    long.extend_from_slice(b"co")?;
+    let table: [(u64, &[u8]); 2] = [
+        (21, b"domlock 1\nroot CELL "),
+        (long.len() as u64 + 1, long.as_slice()),
+    ];
+    for (at, want) in table {
+        let mut sink = MemSink::new(rt.alloc(), 1, &[at], 1000)?;
+        let outcome = call(rt.alloc(), "show m", COUNTER, b"", &mut sink)?;
+        assert_eq!(rt; outcome.status, Status::WriteFault);
+        assert_eq!(rt; exit_code(&outcome.status), 6);
+        assert_eq!(rt; sink.bytes(), want);
+        assert_eq!(rt; outcome.history.entries().len(), 0);
+    }
     Ok(())
 }

@@ -1,16 +1,20 @@
-ghost use Rattle.std.specs.Prelude.{◌≡◌, ◌+◌, ◌≤◌, ◌≢◌, ◌↔◌, ◌<◌, ◌⊎◌, ℕ, List, [], Some, None};
+ghost use Rattle.std.specs.Prelude.{◌≡◌, ◌+◌, ◌≤◌, ◌≢◌, ◌↔◌, ◌<◌, ◌⊎◌, ℕ, List, [], Some, None, All, length};
 ghost use Rattle.dl_io.specs.Faults.{Rose};
 ghost use Rattle.dl_io.specs.Taken.{Took};
+ghost use Rattle.dl_ir.specs.CallForms.{AreCallsOf};
+ghost use Rattle.dl_ir.specs.Checked.{IsChecked};
 ghost use Rattle.domlock.specs.Causes.{Refuses, Cut};
-ghost use Rattle.domlock.specs.Promise.{Ran, Ends};
+ghost use Rattle.domlock.specs.Promise.{Ran, Finishes, Ends};
 ghost use Rattle.domlock.specs.Told.{EndsAsTold, IsInOrder};
 ghost use Rattle.domlock.specs.Words.{Task, limit_of, task_of_words};
 
-use crate::loading::read_input;
+use crate::loading::{Input, read_input};
 use crate::run::{run_input, write_run};
+use crate::show::write_shown;
 use crate::status::Status;
-use crate::words::{Words, command_of};
+use crate::words::{Verb, Words, command_of};
 use dl_history::History;
+use dl_instr::instrument;
 use dl_io::{Files, Sink};
 use dl_ir::Refusal;
 use sqlite_items::Items;
@@ -38,6 +42,37 @@ fn nothing(alloc: Global, status: Status) -> Outcome
     }
 }
 
+// Runs the calls of a command from the start heap, and writes the report.
+fn serial<K: Sink>(alloc: Global, input: &Input, places: u32, out: &mut K) -> Outcome
+    requires places { (1 ≤ places) × (places ≤ 65536) }
+    requires checked { IsChecked input.now.source }
+    requires one { length input.now.all.items ≡ 1 }
+    requires calls { All (AreCallsOf input.now.source) input.now.all.items }
+    ensures { Finishes Verb.Serial input.now.tree input.now.source input.now.all.items places (K.taken out.old) (K.taken out.new) result.status result.history.entries result.refusals }
+{
+    match run_input(alloc, input, places) {
+        Ok(run) => {
+            let status = write_run(input, &run, out);
+            Outcome {
+                status,
+                history: run.history,
+                refusals: run.refusals,
+            }
+        }
+        Err(_) => nothing(alloc, Status::Memory),
+    }
+}
+
+// Writes the module in its canonical form, and its code.
+fn show<K: Sink>(alloc: Global, input: &Input, out: &mut K) -> Outcome
+    ensures { (places : ℕ) → Finishes Verb.Show input.now.tree input.now.source input.now.all.items places (K.taken out.old) (K.taken out.new) result.status result.history.entries result.refusals }
+{
+    match instrument(alloc, &input.source) {
+        Ok(code) => nothing(alloc, write_shown(&input.tree, &code, out)),
+        Err(_) => nothing(alloc, Status::Memory),
+    }
+}
+
 fn run_still<F: Files, K: Sink>(alloc: Global, words: &Words, files: &mut F, out: &mut K) -> Outcome
     ensures { Ends words.now (F.source files.old) (F.source files.new) (K.taken out.old) (K.taken out.new) result.status result.history.entries result.refusals }
 {
@@ -48,16 +83,9 @@ fn run_still<F: Files, K: Sink>(alloc: Global, words: &Words, files: &mut F, out
         Ok(input) => input,
         Err(status) => return nothing(alloc, status),
     };
-    match run_input(alloc, &input, command.places) {
-        Ok(run) => {
-            let status = write_run(&input, &run, out);
-            Outcome {
-                status,
-                history: run.history,
-                refusals: run.refusals,
-            }
-        }
-        Err(_) => nothing(alloc, Status::Memory),
+    match command.verb {
+        Verb::Serial => serial(alloc, &input, command.places, out),
+        Verb::Show => show(alloc, &input, out),
     }
 }
 
@@ -69,11 +97,11 @@ pub fn domlock_still<F: Files, K: Sink>(
     files: &mut F,
     out: &mut K,
 ) -> Outcome
-    // The sink took the report of a run of what the files' bytes spell.
+    // The sink took what the command writes of what the files' bytes spell.
     ensures done { result.status ≡ Status.Done → (text : List ℕ) × Ran words.now (F.source files.old) result.history.entries result.refusals text
         × Took (K.taken out.old).written (K.taken out.new).written text }
 
-    // The same, and a prefix of the report was taken.
+    // The same, and a prefix of it was taken.
     ensures write_fault { result.status ≡ Status.WriteFault → (text : List ℕ) × Ran words.now (F.source files.old) result.history.entries result.refusals text
         × Cut text (K.taken out.old) (K.taken out.new) }
 

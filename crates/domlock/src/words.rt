@@ -40,6 +40,8 @@ impl Words {
 pub enum Verb {
     /// Runs one operation file, operation after operation.
     Serial,
+    /// Prints a module in its canonical form, and its code.
+    Show,
 }
 
 /// What the program is to do, with the path of the module and those of the files behind it.
@@ -75,24 +77,57 @@ fn places_of(last: &[String]) -> Option<u32>
     }
 }
 
-/// Reads the words. So far they are `serial`, the path of a module, that of one operation file, and where they are wanted
-/// `--places` and a number.
-pub fn command_of(words: &Words) -> Option<Command<'_>>
-    ensures value { option_map task_of result ≡ task_of_words words.now }
+// The command that the words behind `serial` give.
+fn serial_command(words: &[String]) -> Option<Command<'_>>
+    ensures value { option_map task_of result ≡ spec.serial_task (map string_bytes words.now) }
     ensures one { IfSome result (λ command. length command.rest.now ≡ 1) }
     ensures places { IfSome result (λ command. (1 ≤ command.places) × (command.places ≤ 65536)) }
 {
-    let items = words.as_slice();
-    match items {
-        [command, first, _, last @ ..] if command.as_str() == "serial" => {
+    match words {
+        [first, _, last @ ..] => {
             let places = places_of(last)?;
             Some(Command {
                 verb: Verb::Serial,
                 first: first.as_str(),
-                rest: &items[2..3],
+                rest: &words[1..2],
                 places,
             })
         }
+        _ => None,
+    }
+}
+
+// The command that the words behind `show` give.
+fn show_command(words: &[String]) -> Option<Command<'_>>
+    ensures value { option_map task_of result ≡ spec.show_task (map string_bytes words.now) }
+    ensures show { IfSome result (λ command. (command.verb ≡ Verb.Show) × (length command.rest.now ≡ 0)) }
+    ensures places { IfSome result (λ command. (1 ≤ command.places) × (command.places ≤ 65536)) }
+{
+    match words {
+        [first, last @ ..] => {
+            let places = places_of(last)?;
+            Some(Command {
+                verb: Verb::Show,
+                first: first.as_str(),
+                rest: &words[..0],
+                places,
+            })
+        }
+        _ => None,
+    }
+}
+
+/// Reads the words. They are a command and the path of a module, behind `serial` then that of one operation file, and
+/// where they are wanted `--places` and a number.
+pub fn command_of(words: &Words) -> Option<Command<'_>>
+    ensures value { option_map task_of result ≡ task_of_words words.now }
+    ensures one { IfSome result (λ command. command.verb ≡ Verb.Serial → length command.rest.now ≡ 1) }
+    ensures few { IfSome result (λ command. length command.rest.now ≤ 64) }
+    ensures places { IfSome result (λ command. (1 ≤ command.places) × (command.places ≤ 65536)) }
+{
+    match words.as_slice() {
+        [command, rest @ ..] if command.as_str() == "serial" => serial_command(rest),
+        [command, rest @ ..] if command.as_str() == "show" => show_command(rest),
         _ => None,
     }
 }
