@@ -5,7 +5,8 @@ use Rattle.std.proofs.lemmas.Option.{slice_get_within}
 use Rattle.dl_ir.specs.declared.modules.OpDecl.{OpDecl}
 use Rattle.dl_instr.specs.declared.steps.Step.{Step}
 use Rattle.dl_instr.specs.declared.steps.Step.TheVariants.{Drop}
-use Rattle.dl_instr.specs.Drops.{IsWithDrops, IsAddedDrop, IsReadFrom, EachJumpLands, GoesOn, front, moved, jump_of, reads, sets, is_use, is_reference}
+use Rattle.dl_instr.specs.Drops.{IsWithDrops, IsAddedDrop, IsReadFrom, GoesOn, front, moved, reads, sets, is_use, is_reference}
+use Rattle.dl_instr.specs.Jumps.{JumpsLand, jump_of}
 use Rattle.dl_instr.specs.Matching.{IsTarget, Fits, IsNearest, IsLate, IsFront, IsStuck, IsJumpMoved, IsJumpWrong, AllAdded, opened}
 use Rattle.dl_instr.proofs.Rising.{not_falling, not_behind, front_next}
 use Rattle.dl_instr.proofs.Moved.{jump_on, drop_is}
@@ -47,7 +48,7 @@ dead_run steps p (suc k) y z at last drops path =
     let on = past_drop steps p drop.local y path drop.is in
     dead_run steps p k (y + 1) z (omega (arith, at)) last (λ v from to. drops v (omega (arith, from)) to) on.1
 
-module _ (op : OpDecl) (plain steps : List Step) (w : IsWithDrops op plain steps) (lands : EachJumpLands plain) where
+module _ (op : OpDecl) (plain steps : List Step) (w : IsWithDrops op plain steps) (lands : JumpsLand plain) where
   -- a plain drop that may stand later stands where one may have been added
   moved_later : (k d j x : ℕ) → d < k → j + suc d ≡ length plain → IsLate plain steps (suc d) x → w.at j < x → IsAddedDrop op steps (w.at j)
   moved_later zero d j x less at late before = absurd (omega (arith, less))

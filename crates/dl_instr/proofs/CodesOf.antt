@@ -9,7 +9,8 @@ use Rattle.dl_instr.specs.declared.code.Code.{Code}
 use Rattle.dl_instr.specs.declared.steps.Step.{Step}
 use Rattle.dl_instr.specs.declared.steps.Step.TheVariants.{Read, Want, Set, Drop, Make, Eval, Write, Test, Jump, Give}
 use Rattle.dl_instr.specs.Code.{code, op_code}
-use Rattle.dl_instr.specs.Drops.{IsWithDrops, IsAddedDrop, IsCodeOf, EachJumpLands, front, moved, jump_of}
+use Rattle.dl_instr.specs.Drops.{IsWithDrops, IsAddedDrop, IsCodeOf, front, moved}
+use Rattle.dl_instr.specs.Jumps.{JumpsLand, jump_of}
 use Rattle.dl_instr.specs.DropsLaws.{PlainIsCode}
 use Rattle.dl_instr.proofs.Rising.{front_below, some_at}
 use Rattle.dl_instr.proofs.Moved.{jump_back}
@@ -56,7 +57,7 @@ plain_is_code source = record {
       subst (λ (s : List Step). IsWithDrops op (op_code op) s) made (with_none op (op_code op));
 }
 
-module _ (op : OpDecl) (plain steps : List Step) (w : IsWithDrops op plain steps) (lands : EachJumpLands plain) where
+module _ (op : OpDecl) (plain steps : List Step) (w : IsWithDrops op plain steps) (lands : JumpsLand plain) where
   -- a jump comes from a plain jump
   pub from_plain : (y z : ℕ) (step : Step) → slice_get steps y ≡ Some step → jump_of step ≡ Some z
       → (i : ℕ) × (t : ℕ) × (s : Step) × (slice_get plain i ≡ Some s) × (jump_of s ≡ Some t) × (t < length plain) × (front w.at t ≡ z) × (w.at i ≡ y)
@@ -73,7 +74,7 @@ module _ (op : OpDecl) (plain steps : List Step) (w : IsWithDrops op plain steps
         absurd cc
   ]
 
-  pub codes_land : EachJumpLands steps
+  pub codes_land : JumpsLand steps
   codes_land y z step there jumps =
       let from = from_plain y z step there jumps in
       let below = front_below w.at (length plain) from.1 w.rises from.5 in

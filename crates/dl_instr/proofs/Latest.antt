@@ -5,7 +5,8 @@ use Rattle.std.proofs.lemmas.Option.{slice_get_within}
 use Rattle.dl_ir.specs.declared.modules.OpDecl.{OpDecl}
 use Rattle.dl_instr.specs.declared.steps.Step.{Step}
 use Rattle.dl_instr.specs.declared.steps.Step.TheVariants.{Drop}
-use Rattle.dl_instr.specs.Drops.{IsWithDrops, IsAddedDrop, EachJumpLands, front, moved, jump_of}
+use Rattle.dl_instr.specs.Drops.{IsWithDrops, IsAddedDrop, front, moved}
+use Rattle.dl_instr.specs.Jumps.{JumpsLand, jump_of}
 use Rattle.dl_instr.specs.Matching.{IsTarget, Fits, IsNearest, IsLate, opened}
 use Rattle.dl_instr.proofs.Rising.{rising, not_falling, taken_once, not_behind, front_next, some_at}
 use Rattle.dl_instr.proofs.Moved.{jump_on, moved_twice, drop_is}
@@ -16,7 +17,7 @@ pub record IsDropAt (steps : List Step) (y : ℕ) : Type 0 where
   pub local : ℕ
   pub is : slice_get steps y ≡ Some (Drop local)
 
-module _ (op : OpDecl) (plain steps : List Step) (w : IsWithDrops op plain steps) (lands : EachJumpLands plain) where
+module _ (op : OpDecl) (plain steps : List Step) (w : IsWithDrops op plain steps) (lands : JumpsLand plain) where
   pub inside : (i : ℕ) → i < length plain → w.at i < length steps
   inside i h = let s = some_at plain i h in slice_get_within steps (w.at i) (moved (front w.at) s.0) (w.kept i s.0 s.1)
 

@@ -10,6 +10,5 @@ mod PlainSteps
 mod Refuted
 mod Rising
 mod SameLists
-pub mod Jumps
 pub mod Operands
 pub mod Patches

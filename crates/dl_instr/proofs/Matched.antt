@@ -4,7 +4,8 @@ use Rattle.std.proofs.lemmas.Bool.{cases_lt, cases_eq}
 use Rattle.std.proofs.lemmas.Option.{slice_get_within}
 use Rattle.dl_ir.specs.declared.modules.OpDecl.{OpDecl}
 use Rattle.dl_instr.specs.declared.steps.Step.{Step}
-use Rattle.dl_instr.specs.Drops.{IsWithDrops, IsAddedDrop, front, moved, jump_of}
+use Rattle.dl_instr.specs.Drops.{IsWithDrops, IsAddedDrop, front, moved}
+use Rattle.dl_instr.specs.Jumps.{jump_of}
 use Rattle.dl_instr.specs.Matching.{Fits, IsNearest, IsLate, IsFront, IsJumpMoved, AllAdded, IsMatched, opened}
 use Rattle.dl_instr.proofs.Rising.{front_next}
 use Rattle.dl_instr.proofs.Moved.{both_jump, same_jump, no_jumps}

@@ -2,7 +2,8 @@
 use Rattle.std.proofs.Common.{◌≡◌, ℕ, zero, suc, refl, sym, ap, ◌∙◌, Some, None}
 use Rattle.dl_instr.specs.declared.steps.Step.{Step}
 use Rattle.dl_instr.specs.declared.steps.Step.TheVariants.{Read, Want, Set, Drop, Make, Eval, Write, Test, Jump, Give}
-use Rattle.dl_instr.specs.Drops.{moved, jump_of}
+use Rattle.dl_instr.specs.Drops.{moved}
+use Rattle.dl_instr.specs.Jumps.{jump_of}
 use Rattle.dl_instr.specs.Matching.{opened}
 
 -- a moved jump goes where it was moved to

@@ -1,5 +1,7 @@
 -- The jumps of plain code land.
-use Rattle.std.proofs.Common.{◌≡◌, ℕ, zero, suc, ◌+◌, ◌<◌, ◌≤◌, pos, true, false, List, [], ◌∷◌, ◌++◌, length, map, refl, sym, ap, subst, ◌∙◌, Some, None, arith, ◌⊎◌, inl, inr, slice_get, length-append}
+use Rattle.std.proofs.Common.{◌≡◌, ℕ, zero, suc, ◌+◌, ◌<◌, ◌≤◌, pos, true, false, List, [], ◌∷◌, ◌++◌, length, map, refl, sym, ap, subst, ◌∙◌, Some, None, arith, ◌⊎◌, inl, inr, slice_get, All, slice_index_or, length-append}
+use Rattle.std.proofs.lemmas.List.Elements.{All-map}
+use Rattle.dl_ir.specs.declared.modules.Module.{Module}
 use Rattle.dl_ir.specs.declared.expressions.Cond.{Cond}
 use Rattle.dl_ir.specs.declared.expressions.Expr.TheVariants.{Num}
 use Rattle.dl_ir.specs.declared.modules.OpDecl.{OpDecl}
@@ -7,8 +9,8 @@ use Rattle.dl_ir.specs.declared.statements.Stmt.{Stmt, Stmt-F, roll-Stmt}
 use Rattle.dl_ir.specs.declared.statements.Stmt.TheFolds.{fold-Stmt, fold-roll-Stmt, map-Stmt, ind-Stmt}
 use Rattle.dl_instr.specs.declared.steps.Step.{Step}
 use Rattle.dl_instr.specs.declared.steps.Step.TheVariants.{Test, Jump, Give}
-use Rattle.dl_instr.specs.Code.{Placed, stmt_code, block_code, op_code, steps_of, in_row, if_code, if_else_code, while_code}
-use Rattle.dl_instr.specs.Drops.{EachJumpLands, jump_of}
+use Rattle.dl_instr.specs.Code.{Placed, stmt_code, block_code, op_code, steps_of, in_row, if_code, if_else_code, while_code, code}
+use Rattle.dl_instr.specs.Jumps.{JumpsLand, jump_of}
 
 -- the jumps of the steps go to places up to a limit
 Within : List Step → ℕ → Type 0
@@ -120,7 +122,7 @@ block_lands : (block : List Stmt) → Lands (block_code block)
 block_lands [] = no_row
 block_lands (d ∷ block) = row_lands (stmt_code d) (map stmt_code block) (stmt_lands d) (block_lands block)
 
-pub plain_lands : (op : OpDecl) → EachJumpLands (op_code op)
+pub plain_lands : (op : OpDecl) → JumpsLand (op_code op)
 unfolding Within Lands
 plain_lands op at place step is jumps =
     let body = block_code op.body 0 in
@@ -128,3 +130,6 @@ plain_lands op at place step is jumps =
     let within : Within (op_code op) (0 + length body) = in_both body (Give (Num (pos 0)) ∷ []) (0 + length body) (block_lands op.body 0) (stays_in (Give (Num (pos 0))) [] (0 + length body) refl (none_within (0 + length body))) in
     let le = within at place step is jumps in
     omega (arith, le, all)
+
+pub jumps_of_code_land : (source : Module) → All JumpsLand (code source).ops
+jumps_of_code_land source = All-map JumpsLand op_code source.ops (λ k d within. plain_lands (slice_index_or source.ops k d))

@@ -9,7 +9,8 @@ use Rattle.dl_ir.specs.declared.modules.OpDecl.{OpDecl}
 use Rattle.dl_instr.specs.declared.steps.Step.{Step}
 use Rattle.dl_instr.specs.declared.steps.Step.TheVariants.{Give}
 use Rattle.dl_instr.specs.Code.{op_code, block_code}
-use Rattle.dl_instr.specs.Drops.{IsWithDrops, IsAddedDrop, EachJumpLands, front, jump_of}
+use Rattle.dl_instr.specs.Drops.{IsWithDrops, IsAddedDrop, front}
+use Rattle.dl_instr.specs.Jumps.{JumpsLand, jump_of}
 use Rattle.dl_instr.specs.Matching.{IsTarget, Fits, IsNearest, IsLate, IsFront, IsStuck, IsJumpMoved, IsJumpWrong, AllAdded, IsMatched, jump_in, opened}
 use Rattle.dl_instr.proofs.Checked.{gap_holds, front_holds, last_holds, never_stuck, never_wrong}
 use Rattle.dl_instr.proofs.Latest.{all_stand, inside}

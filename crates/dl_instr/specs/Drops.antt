@@ -105,13 +105,3 @@ pub record IsCodeOf (source : Module) (code : Code) : Type 0 where
   pub same_source : code.source ≡ source
   pub one_each : length code.ops ≡ length source.ops
   pub ops : (i : ℕ) (op : OpDecl) (steps : List Step) → slice_get source.ops i ≡ Some op → slice_get code.ops i ≡ Some steps → IsWithDrops op (op_code op) steps
-
--- where a step's jump goes
-abbrev pub jump_of : Step → Option ℕ
-jump_of (Test c is_turn place) = Some place
-jump_of (Jump place) = Some place
-jump_of step = None
-
--- each jump of the steps lands on one of them
-abbrev pub EachJumpLands : List Step → Type 0
-EachJumpLands steps = (at place : ℕ) (step : Step) → slice_get steps at ≡ Some step → jump_of step ≡ Some place → place < length steps

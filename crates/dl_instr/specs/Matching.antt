@@ -2,7 +2,8 @@
 use Rattle.std.specs.Prelude.{◌≡◌, ◌<◌, ◌≤◌, ◌+◌, ◌-◌, ◌↔◌, ◌⊎◌, ℕ, zero, suc, Option, Some, None, List, length, slice_get}
 use Rattle.dl_ir.specs.declared.modules.OpDecl.{OpDecl}
 use Rattle.dl_instr.specs.declared.steps.Step.{Step}
-use Rattle.dl_instr.specs.Drops.{IsAddedDrop, moved, jump_of}
+use Rattle.dl_instr.specs.Drops.{IsAddedDrop, moved}
+use Rattle.dl_instr.specs.Jumps.{jump_of}
 
 -- where the step jumps to, if it is there and jumps
 abbrev pub jump_in : Option Step → Option ℕ

@@ -1,6 +1,7 @@
 ghost use Rattle.std.specs.Prelude.{◌≡◌, ◌<◌, ◌≤◌, ◌+◌, ◌-◌, ◌^◌, ◌↔◌, ℕ, suc, false, true, not, if◌then◌else◌, IsTrue, length, slice_get, MatchOption, MatchBool};
 ghost use Rattle.dl_instr.specs.Code.{op_code};
-ghost use Rattle.dl_instr.specs.Drops.{IsAddedDrop, IsWithDrops, IsCodeOf, IsReadFrom, jump_of};
+ghost use Rattle.dl_instr.specs.Drops.{IsAddedDrop, IsWithDrops, IsCodeOf, IsReadFrom};
+ghost use Rattle.dl_instr.specs.Jumps.{jump_of};
 ghost use Rattle.dl_instr.specs.Matching.{IsTarget, Fits, IsNearest, IsLate, IsFront, IsStuck, IsJumpMoved, IsJumpWrong, AllAdded, IsMatched, jump_in, opened};
 ghost use Rattle.dl_instr.specs.Shown.{shown};
 

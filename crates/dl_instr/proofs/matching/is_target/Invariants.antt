@@ -1,6 +1,6 @@
 use Rattle.std.proofs.Common.{◌≡◌, ◌<◌, ℕ, Some, slice_get}
 use Rattle.dl_instr.specs.declared.steps.Step.{Step}
-use Rattle.dl_instr.specs.Drops.{jump_of}
+use Rattle.dl_instr.specs.Jumps.{jump_of}
 use Rattle.dl_instr.proofs.matching.is_target.Given as goal
 
 abbrev pub invariant-loop-step : goal.invariant-loop-step
