@@ -1,7 +1,6 @@
-use Rattle.std.proofs.Common.{◌≡◌, ◌∷◌, [], ◌∙◌, refl, sym, ap, subst, arith}
+use Rattle.std.proofs.Common.{◌≡◌, ◌∙◌, refl, sym, ap, subst, arith}
 use Rattle.std.proofs.lemmas.List.{append-nil}
 use Rattle.dl_ir.specs.declared.answers.Entry.{Entry as OneEntry}
-use Rattle.dl_ir.specs.declared.moves.Move.{Move as OneMove}
 use Rattle.dl_ir.specs.Heap.{View}
 use Rattle.dl_shape.specs.Rising.{in_rising, AreApart}
 use Rattle.dl_shape.proofs.Rising.{rising_is, rises_apart}
