@@ -10,8 +10,6 @@ mod lexeme;
 mod module;
 mod sides;
 mod statements;
-#[cfg(test)]
-mod tests;
 mod tree;
 
 pub use declarations::Declared;

@@ -12,4 +12,6 @@ pub use fault::TypeFault;
 pub use module::{check, checked_modules};
 
 #[cfg(test)]
+mod grammar_tests;
+#[cfg(test)]
 mod tests;

@@ -1,5 +1,5 @@
-use crate::fault::{SyntaxFault, Which};
-use crate::module::read_module;
+// Tests of the reader of modules. With tests of its own `dl_grammar` would be proved twice over.
+use dl_grammar::{SyntaxFault, Which, read_module};
 use std::alloc::{AllocError, Global};
 use std::test::Fail;
 
