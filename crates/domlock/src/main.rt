@@ -4,6 +4,8 @@
 
 mod loading;
 mod reading;
+#[cfg(test)]
+mod rows;
 mod run;
 mod show;
 mod status;

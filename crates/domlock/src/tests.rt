@@ -22,7 +22,7 @@ fn words_of(alloc: Global, line: &str) -> Result<Words, Fail> {
 }
 
 // What a call with these words answers and writes, where the module lies at `m` and the operations at `o`.
-fn call(
+pub fn call(
     alloc: Global,
     line: &str,
     module: &[u8],
