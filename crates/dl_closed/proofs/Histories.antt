@@ -1,8 +1,7 @@
 -- Along a legal history of a forest-closed module no heap has a sealed object.
-use Rattle.std.proofs.Common.{◌≡◌, ◌≢◌, ℕ, zero, suc, ◌+◌, ℤ, List, [], ◌∷◌, Option, Some, None, refl, sym, ap, subst}
+use Rattle.std.proofs.Common.{◌≡◌, ◌≢◌, ℕ, zero, suc, ℤ, List, [], ◌∷◌, Option, Some, None, refl, sym, ap, subst}
 use Rattle.std.specs.Prelude.{All, IfSome, slice_get, option_and_then}
 use Rattle.std.proofs.lemmas.List.Elements.{All-nil, All-cons, All-head, All-tail}
-use Rattle.dl_ir.specs.declared.answers.Answer.{Answer}
 use Rattle.dl_ir.specs.declared.answers.End.{End}
 use Rattle.dl_ir.specs.declared.answers.End.TheVariants as ends
 use Rattle.dl_ir.specs.declared.answers.Entry.{Entry}
@@ -15,9 +14,9 @@ use Rattle.dl_ir.specs.Cover.{call_at}
 use Rattle.dl_ir.specs.Heap.{Objects}
 use Rattle.dl_ir.specs.Meaning.{Context}
 use Rattle.dl_shape.specs.Closed.{AllEndInForest, IsForestClosed}
-use Rattle.dl_shape.specs.Operation.{Result, first_locals, end_of, body_outcome, operated, operated_where}
+use Rattle.dl_shape.specs.Operation.{Result, first_locals, end_of, body_outcome, operated_where}
 use Rattle.dl_shape.specs.References.{IsForest}
-use Rattle.dl_shape.specs.Replay.{IsLegal, IsLegalFrom, greatest_ticket}
+use Rattle.dl_shape.specs.Replay.{IsLegal, IsLegalFrom}
 use Rattle.dl_shape.specs.Settling.{trim}
 use Rattle.dl_closed.specs.Unsealed.{IsUnsealed}
 use Rattle.dl_closed.proofs.Settled.{no_breach, settled_unsealed}

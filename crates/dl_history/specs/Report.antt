@@ -1,4 +1,4 @@
-use Rattle.std.specs.Prelude.{◌+◌, ◌≤◌, All, ◌==◌, ◌&&◌, ◌++◌, ℕ, ℤ, pos, negsuc, Bool, true, false, Option, Some, None, List, [], ◌∷◌, length, slice_get, sum_by, codes, decimal}
+use Rattle.std.specs.Prelude.{◌+◌, ◌≤◌, All, ◌==◌, ◌&&◌, ◌++◌, ℕ, ℤ, pos, negsuc, Bool, true, false, Option, Some, None, List, [], length, slice_get, sum_by, codes, decimal}
 use Rattle.std.specs.Fmt.{signed_decimal}
 use Rattle.std.specs.Option.{option_map, option_map_or}
 use Rattle.std.specs.List.{find, flat_map, zip}

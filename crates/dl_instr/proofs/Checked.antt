@@ -1,17 +1,17 @@
 -- Where the steps are the plain ones with steps added, the latest places pass each check.
-use Rattle.std.proofs.Common.{◌≡◌, ◌==◌, ℕ, zero, suc, ◌+◌, ◌-◌, ◌<◌, ◌≤◌, Bool, true, false, List, ◌++◌, length, refl, sym, ap, subst, ◌∙◌, Some, None, Option, arith, ◌⊎◌, inl, inr, slice_get, add-one}
-use Rattle.std.proofs.lemmas.Bool.{cases_lt, cases_order, eq-eqb}
+use Rattle.std.proofs.Common.{◌≡◌, ◌==◌, ℕ, zero, suc, ◌+◌, ◌-◌, ◌<◌, ◌≤◌, true, false, List, ◌++◌, length, refl, sym, ap, subst, ◌∙◌, Some, None, arith, ◌⊎◌, inl, inr, slice_get, add-one}
+use Rattle.std.proofs.lemmas.Bool.{cases_lt, eq-eqb}
 use Rattle.std.proofs.lemmas.Option.{slice_get_within}
 use Rattle.dl_ir.specs.declared.modules.OpDecl.{OpDecl}
 use Rattle.dl_instr.specs.declared.steps.Step.{Step}
 use Rattle.dl_instr.specs.declared.steps.Step.TheVariants.{Drop}
 use Rattle.dl_instr.specs.Drops.{IsWithDrops, IsAddedDrop, IsReadFrom, GoesOn, front, moved, reads, sets, is_use, is_reference}
 use Rattle.dl_instr.specs.Jumps.{JumpsLand, jump_of}
-use Rattle.dl_instr.specs.Matching.{IsTarget, Fits, IsNearest, IsLate, IsFront, IsStuck, IsJumpMoved, IsJumpWrong, AllAdded, opened}
-use Rattle.dl_instr.proofs.Rising.{not_falling, not_behind, front_next}
+use Rattle.dl_instr.specs.Matching.{IsTarget, IsNearest, IsLate, IsFront, IsStuck, IsJumpWrong, AllAdded, opened}
+use Rattle.dl_instr.proofs.Rising.{not_falling, front_next}
 use Rattle.dl_instr.proofs.Moved.{jump_on, drop_is}
 use Rattle.dl_instr.proofs.Late.{later_of, later_above, late_within}
-use Rattle.dl_instr.proofs.Latest.{IsDropAt, Stands, all_stand, room, inside, fits_here}
+use Rattle.dl_instr.proofs.Latest.{IsDropAt, Stands, all_stand, room, fits_here}
 
 -- how a path that reads a local begins
 record Begins (steps : List Step) (p y : ℕ) : Type 0 where

@@ -1,15 +1,13 @@
 -- The plain code of a module is a code of it, and the jumps of its codes land.
-use Rattle.std.proofs.Common.{◌≡◌, ℕ, zero, suc, ◌+◌, ◌<◌, ◌≤◌, List, length, refl, sym, ap, subst, ◌∙◌, Some, None, Option, arith, ◌⊎◌, inl, inr, slice_get, add-one}
+use Rattle.std.proofs.Common.{◌≡◌, ℕ, zero, suc, ◌<◌, List, length, refl, sym, ap, subst, ◌∙◌, Some, Option, arith, inl, inr, slice_get, add-one}
 use Rattle.std.specs.Option.{option_map}
 use Rattle.std.proofs.lemmas.List.{length-map}
 use Rattle.std.proofs.lemmas.Option.{slice_get-map, slice_get_within}
 use Rattle.dl_ir.specs.declared.modules.OpDecl.{OpDecl}
-use Rattle.dl_ir.specs.declared.modules.Module.{Module}
-use Rattle.dl_instr.specs.declared.code.Code.{Code}
 use Rattle.dl_instr.specs.declared.steps.Step.{Step}
 use Rattle.dl_instr.specs.declared.steps.Step.TheVariants.{Read, Want, Set, Drop, Make, Eval, Write, Test, Jump, Give}
-use Rattle.dl_instr.specs.Code.{code, op_code}
-use Rattle.dl_instr.specs.Drops.{IsWithDrops, IsAddedDrop, IsCodeOf, front, moved}
+use Rattle.dl_instr.specs.Code.{op_code}
+use Rattle.dl_instr.specs.Drops.{IsWithDrops, front, moved}
 use Rattle.dl_instr.specs.Jumps.{JumpsLand, jump_of}
 use Rattle.dl_instr.specs.DropsLaws.{PlainIsCode}
 use Rattle.dl_instr.proofs.Rising.{front_below, some_at}

@@ -1,8 +1,8 @@
 -- Latest places are unique and rise.
-use Rattle.std.proofs.Common.{◌≡◌, ℕ, zero, suc, ◌+◌, ◌-◌, ◌<◌, ◌≤◌, List, length, refl, sym, ap, subst, ◌∙◌, Some, None, arith, ◌⊎◌, inl, inr, slice_get}
+use Rattle.std.proofs.Common.{◌≡◌, ℕ, zero, suc, ◌-◌, ◌<◌, ◌≤◌, List, length, sym, subst, ◌∙◌, arith, inl, inr}
 use Rattle.std.proofs.lemmas.Bool.{cases_lt, cases_order}
 use Rattle.dl_instr.specs.declared.steps.Step.{Step}
-use Rattle.dl_instr.specs.Matching.{Fits, IsNearest, IsLate}
+use Rattle.dl_instr.specs.Matching.{IsNearest, IsLate}
 
 module _ (plain steps : List Step) where
   one_nearest : (i next x y : ℕ) → IsNearest plain steps i next x → IsNearest plain steps i next y → x ≡ y

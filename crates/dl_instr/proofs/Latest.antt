@@ -1,14 +1,14 @@
 -- Plain steps that have places have latest places.
-use Rattle.std.proofs.Common.{◌≡◌, ℕ, zero, suc, ◌+◌, ◌-◌, ◌<◌, ◌≤◌, List, length, refl, sym, ap, subst, ◌∙◌, Some, None, Option, arith, ◌⊎◌, inl, inr, slice_get, add-one}
+use Rattle.std.proofs.Common.{◌≡◌, ℕ, zero, suc, ◌+◌, ◌-◌, ◌<◌, ◌≤◌, List, length, sym, ap, subst, ◌∙◌, Some, arith, inl, inr, slice_get, add-one}
 use Rattle.std.proofs.lemmas.Bool.{cases_lt, cases_order}
 use Rattle.std.proofs.lemmas.Option.{slice_get_within}
 use Rattle.dl_ir.specs.declared.modules.OpDecl.{OpDecl}
 use Rattle.dl_instr.specs.declared.steps.Step.{Step}
 use Rattle.dl_instr.specs.declared.steps.Step.TheVariants.{Drop}
-use Rattle.dl_instr.specs.Drops.{IsWithDrops, IsAddedDrop, front, moved}
-use Rattle.dl_instr.specs.Jumps.{JumpsLand, jump_of}
+use Rattle.dl_instr.specs.Drops.{IsWithDrops, front, moved}
+use Rattle.dl_instr.specs.Jumps.{JumpsLand}
 use Rattle.dl_instr.specs.Matching.{IsTarget, Fits, IsNearest, IsLate, opened}
-use Rattle.dl_instr.proofs.Rising.{rising, not_falling, taken_once, not_behind, front_next, some_at}
+use Rattle.dl_instr.proofs.Rising.{not_falling, taken_once, not_behind, front_next, some_at}
 use Rattle.dl_instr.proofs.Moved.{jump_on, moved_twice, drop_is}
 use Rattle.dl_instr.proofs.CodesOf.{from_plain}
 

@@ -1,12 +1,12 @@
 -- Where the latest places pass each check, the steps are the plain ones with steps added.
-use Rattle.std.proofs.Common.{◌≡◌, ℕ, zero, suc, ◌+◌, ◌-◌, ◌<◌, ◌≤◌, List, length, refl, sym, ap, subst, ◌∙◌, Some, None, Option, arith, ◌⊎◌, inl, inr, slice_get, add-one}
+use Rattle.std.proofs.Common.{◌≡◌, ℕ, zero, suc, ◌+◌, ◌-◌, ◌<◌, ◌≤◌, List, length, refl, sym, ap, subst, ◌∙◌, Some, None, Option, arith, ◌⊎◌, inl, inr, slice_get}
 use Rattle.std.proofs.lemmas.Bool.{cases_lt, cases_eq}
 use Rattle.std.proofs.lemmas.Option.{slice_get_within}
 use Rattle.dl_ir.specs.declared.modules.OpDecl.{OpDecl}
 use Rattle.dl_instr.specs.declared.steps.Step.{Step}
 use Rattle.dl_instr.specs.Drops.{IsWithDrops, IsAddedDrop, front, moved}
 use Rattle.dl_instr.specs.Jumps.{jump_of}
-use Rattle.dl_instr.specs.Matching.{Fits, IsNearest, IsLate, IsFront, IsJumpMoved, AllAdded, IsMatched, opened}
+use Rattle.dl_instr.specs.Matching.{IsNearest, IsLate, IsFront, IsJumpMoved, AllAdded, IsMatched, opened}
 use Rattle.dl_instr.proofs.Rising.{front_next}
 use Rattle.dl_instr.proofs.Moved.{both_jump, same_jump, no_jumps}
 use Rattle.dl_instr.proofs.Late.{one_late}

@@ -1,5 +1,5 @@
 -- Steps and their jumps.
-use Rattle.std.proofs.Common.{◌≡◌, ℕ, zero, suc, refl, sym, ap, ◌∙◌, Some, None}
+use Rattle.std.proofs.Common.{◌≡◌, ℕ, refl, sym, ap, ◌∙◌, Some, None}
 use Rattle.dl_instr.specs.declared.steps.Step.{Step}
 use Rattle.dl_instr.specs.declared.steps.Step.TheVariants.{Read, Want, Set, Drop, Make, Eval, Write, Test, Jump, Give}
 use Rattle.dl_instr.specs.Drops.{moved}

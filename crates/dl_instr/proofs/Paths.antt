@@ -1,14 +1,14 @@
 -- Paths that are followed to their ends.
-use Rattle.std.proofs.Common.{◌≡◌, ◌==◌, ◌||◌, ℕ, zero, suc, ◌+◌, ◌<◌, ◌≤◌, Bool, true, false, cond, List, [], ◌∷◌, length, refl, sym, ap, subst, ◌∙◌, Option, Some, None, arith, ◌⊎◌, inl, inr, slice_get, MatchOption, MatchBool}
-use Rattle.std.proofs.lemmas.Bool.{cases_lt, cases_eq, cases_Bool, or_cases, eqb-true, eq-eqb}
+use Rattle.std.proofs.Common.{◌≡◌, ◌==◌, ◌||◌, ℕ, zero, suc, ◌+◌, ◌<◌, ◌≤◌, Bool, true, false, cond, List, [], ◌∷◌, length, refl, sym, ap, subst, ◌∙◌, Option, Some, None, arith, ◌⊎◌, inl, inr, MatchOption, MatchBool}
+use Rattle.std.proofs.lemmas.Bool.{cases_lt, cases_eq, or_cases, eqb-true, eq-eqb}
 use Rattle.std.proofs.lemmas.Option.{slice_get_within}
 use Rattle.std.specs.Borrow.{Bor}
 use Rattle.dl_instr.specs.declared.liveness.Reached.{Reached}
 use Rattle.dl_instr.specs.declared.liveness.Reached.TheFolds.{fold_out-Reached, map-Reached}
 use Rattle.dl_instr.specs.declared.liveness.Reached.TheVariants.{At, Nowhere, outs-At, outs-Nowhere}
 use Rattle.dl_instr.specs.declared.steps.Step.{Step}
-use Rattle.dl_instr.specs.Drops.{IsReadFrom, GoesOn, reads, sets}
-use Rattle.dl_instr.specs.Paths.{place_of, places_of, is_among, CanGo, IsNew, IsClosed, AllClosed, SomeNew, SomeReads, NoneReads, IsReadFromSome, IsReadFromNone}
+use Rattle.dl_instr.specs.Drops.{IsReadFrom}
+use Rattle.dl_instr.specs.Paths.{place_of, places_of, is_among, IsClosed, AllClosed, SomeNew, SomeReads, NoneReads, IsReadFromSome, IsReadFromNone}
 
 -- how many numbers below a bound are not in the list
 abbrev pub missing : ℕ → List ℕ → ℕ

@@ -1,12 +1,12 @@
 -- The jumps of plain code land.
-use Rattle.std.proofs.Common.{◌≡◌, ℕ, zero, suc, ◌+◌, ◌<◌, ◌≤◌, pos, true, false, List, [], ◌∷◌, ◌++◌, length, map, refl, sym, ap, subst, ◌∙◌, Some, None, arith, ◌⊎◌, inl, inr, slice_get, All, slice_index_or, length-append}
+use Rattle.std.proofs.Common.{◌≡◌, ℕ, zero, suc, ◌+◌, ◌≤◌, pos, true, false, List, [], ◌∷◌, ◌++◌, length, map, refl, sym, ap, subst, ◌∙◌, Some, None, arith, slice_get, All, slice_index_or, length-append}
 use Rattle.std.proofs.lemmas.List.Elements.{All-map}
 use Rattle.dl_ir.specs.declared.modules.Module.{Module}
 use Rattle.dl_ir.specs.declared.expressions.Cond.{Cond}
 use Rattle.dl_ir.specs.declared.expressions.Expr.TheVariants.{Num}
 use Rattle.dl_ir.specs.declared.modules.OpDecl.{OpDecl}
 use Rattle.dl_ir.specs.declared.statements.Stmt.{Stmt, Stmt-F, roll-Stmt}
-use Rattle.dl_ir.specs.declared.statements.Stmt.TheFolds.{fold-Stmt, fold-roll-Stmt, map-Stmt, ind-Stmt}
+use Rattle.dl_ir.specs.declared.statements.Stmt.TheFolds.{fold-roll-Stmt, map-Stmt, ind-Stmt}
 use Rattle.dl_instr.specs.declared.steps.Step.{Step}
 use Rattle.dl_instr.specs.declared.steps.Step.TheVariants.{Test, Jump, Give}
 use Rattle.dl_instr.specs.Code.{Placed, stmt_code, block_code, op_code, steps_of, in_row, if_code, if_else_code, while_code, code}

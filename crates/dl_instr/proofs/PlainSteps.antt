@@ -1,10 +1,10 @@
 -- Where the steps of statements and blocks stand.
-use Rattle.std.proofs.Common.{◌≡◌, ℕ, zero, suc, ◌+◌, ◌-◌, ◌<◌, ◌≤◌, ◌^◌, true, false, List, [], ◌∷◌, ◌++◌, length, drop, get_or, map, refl, sym, ap, subst, ◌∙◌, Option, Some, None, arith, ◌⊎◌, inl, inr, slice_get, MatchOption, length-append, drop-cons, add-one}
-use Rattle.std.specs.Option.{option_map, SomeIff}
+use Rattle.std.proofs.Common.{◌≡◌, ℕ, zero, suc, ◌+◌, ◌-◌, ◌<◌, ◌≤◌, ◌^◌, true, false, List, [], ◌∷◌, ◌++◌, length, drop, get_or, refl, sym, ap, subst, ◌∙◌, Option, Some, None, arith, inl, inr, slice_get, MatchOption, length-append, drop-cons, add-one}
+use Rattle.std.specs.Option.{SomeIff}
 use Rattle.std.proofs.lemmas.Bool.{cases_lt}
 use Rattle.std.proofs.lemmas.Option.{slice_get_past}
 use Rattle.dl_ir.specs.declared.expressions.Cond.{Cond}
-use Rattle.dl_ir.specs.declared.statements.Stmt.{Stmt, Stmt-F}
+use Rattle.dl_ir.specs.declared.statements.Stmt.{Stmt}
 use Rattle.dl_ir.specs.declared.statements.Stmt.TheFolds.{fold_out-Stmt, map-Stmt}
 use Rattle.dl_ir.specs.declared.statements.Stmt.TheVariants.{If, While, outs-If, outs-While}
 use Rattle.dl_instr.specs.declared.steps.Step.{Step}

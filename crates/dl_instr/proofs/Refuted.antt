@@ -1,7 +1,6 @@
 -- What each check of the places of plain steps tells.
-use Rattle.std.proofs.Common.{◌≡◌, ℕ, zero, suc, ◌+◌, ◌-◌, ◌<◌, ◌≤◌, ◌++◌, ◌∷◌, [], Bool, true, false, not, cond, List, length, refl, sym, ap, subst, ◌∙◌, Option, Some, None, arith, ◌⊎◌, inl, inr, slice_get, MatchBool, add-one, length-append, get_or}
+use Rattle.std.proofs.Common.{◌≡◌, ℕ, zero, suc, ◌+◌, ◌-◌, ◌<◌, ◌≤◌, ◌∷◌, [], Bool, true, false, not, cond, List, length, refl, sym, ap, subst, ◌∙◌, Option, Some, None, arith, ◌⊎◌, inl, inr, slice_get, MatchBool, add-one, length-append, get_or}
 use Rattle.std.specs.Prelude.{pos, IsTrue, ◌↔◌, nat_eq}
-use Rattle.std.proofs.lemmas.Bool.{cases_lt}
 use Rattle.std.proofs.lemmas.Bool.Decides.{eqb_tells}
 use Rattle.std.proofs.lemmas.Option.{slice_get_read}
 use Rattle.dl_ir.specs.declared.expressions.Expr.TheVariants.{Num}
@@ -9,8 +8,8 @@ use Rattle.dl_ir.specs.declared.modules.OpDecl.{OpDecl}
 use Rattle.dl_instr.specs.declared.steps.Step.{Step}
 use Rattle.dl_instr.specs.declared.steps.Step.TheVariants.{Give}
 use Rattle.dl_instr.specs.Code.{op_code, block_code}
-use Rattle.dl_instr.specs.Drops.{IsWithDrops, IsAddedDrop, front}
-use Rattle.dl_instr.specs.Jumps.{JumpsLand, jump_of}
+use Rattle.dl_instr.specs.Drops.{IsWithDrops}
+use Rattle.dl_instr.specs.Jumps.{jump_of}
 use Rattle.dl_instr.specs.Matching.{IsTarget, Fits, IsNearest, IsLate, IsFront, IsStuck, IsJumpMoved, IsJumpWrong, AllAdded, IsMatched, jump_in, opened}
 use Rattle.dl_instr.proofs.Checked.{gap_holds, front_holds, last_holds, never_stuck, never_wrong}
 use Rattle.dl_instr.proofs.Latest.{all_stand, inside}

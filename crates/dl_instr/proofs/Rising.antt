@@ -1,5 +1,5 @@
 -- Functions that rise below a bound, and lists by their places.
-use Rattle.std.proofs.Common.{◌≡◌, ℕ, zero, suc, ◌+◌, ◌<◌, ◌≤◌, List, [], ◌∷◌, length, refl, sym, ap, ◌∙◌, Some, None, arith, ◌⊎◌, inl, inr, slice_get, add-one}
+use Rattle.std.proofs.Common.{◌≡◌, ℕ, zero, suc, ◌+◌, ◌<◌, ◌≤◌, List, [], ◌∷◌, length, refl, ap, Some, arith, inl, inr, slice_get, add-one}
 use Rattle.std.proofs.lemmas.Bool.{cases_lt, cases_order}
 use Rattle.dl_instr.specs.Drops.{front}
 

@@ -1,5 +1,5 @@
 -- The listing of a code.
-use Rattle.std.specs.Prelude.{ℕ, ◌+◌, Bool, true, false, nat_lt, Option, None, List, [], ◌∷◌, ◌++◌, slice_get, option_and_then, codes, decimal, if◌then◌else◌}
+use Rattle.std.specs.Prelude.{ℕ, ◌+◌, Bool, true, false, nat_lt, Option, None, List, [], ◌++◌, slice_get, option_and_then, codes, decimal, if◌then◌else◌}
 use Rattle.std.specs.Fmt.{signed_decimal}
 use Rattle.std.specs.Option.{option_map_or}
 use Rattle.dl_ir.specs.declared.expressions.Cond.{Cond}

@@ -1,5 +1,5 @@
 -- Sealing shared objects one after another.
-use Rattle.std.proofs.Common.{◌≡◌, ℕ, ◌+◌, ◌<◌, Bool, true, false, cond, ◌&&◌, ◌||◌, [], ◌∷◌, map, refl, sym, ap, subst, ◌∙◌, T, Option, Some, None, inl, inr, arith}
+use Rattle.std.proofs.Common.{◌≡◌, ℕ, ◌<◌, Bool, true, false, cond, ◌&&◌, ◌||◌, [], ◌∷◌, map, refl, sym, ap, subst, ◌∙◌, T, Option, Some, None, inl, inr, arith}
 use Rattle.std.specs.Prelude.{find, sum_by, nat_lt, nat_le, if◌then◌else◌}
 use Rattle.std.specs.Option.{option_map}
 use Rattle.std.specs.Cmp.{Equal-is}

@@ -1,4 +1,4 @@
-use Rattle.std.proofs.Common.{◌≡◌, refl, ap}
+use Rattle.std.proofs.Common.{refl, ap}
 use Rattle.std.specs.List.{flat_map}
 use Rattle.dl_text.proofs.Loops.{put_start, put_fails, put_step, put_ends}
 use Rattle.dl_history.specs.Report.{object_line}

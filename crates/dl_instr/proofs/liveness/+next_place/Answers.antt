@@ -1,4 +1,4 @@
-use Rattle.std.proofs.Common.{◌≡◌, ◌∷◌, ◌∙◌, ap}
+use Rattle.std.proofs.Common.{◌∙◌, ap}
 use Rattle.dl_instr.specs.Paths.{places_of}
 use Rattle.dl_instr.proofs.Paths.{next_more, places_at}
 use Rattle.dl_instr.proofs.liveness.+next_place.Goals as goal

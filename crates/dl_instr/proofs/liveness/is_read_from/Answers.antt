@@ -1,7 +1,4 @@
-use Rattle.std.proofs.Common.{sym, subst, arith, ap, ◌∙◌, ◌∷◌}
-use Rattle.std.specs.Borrow.{Bor}
-use Rattle.dl_instr.specs.declared.liveness.Reached.{Reached}
-use Rattle.dl_instr.specs.declared.liveness.Reached.TheVariants.{Nowhere}
+use Rattle.std.proofs.Common.{ap, ◌∙◌, ◌∷◌}
 use Rattle.dl_instr.proofs.Paths.{from_one, places_at, places_none}
 use Rattle.dl_instr.proofs.liveness.is_read_from.Goals as goal
 

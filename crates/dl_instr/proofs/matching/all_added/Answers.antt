@@ -1,4 +1,4 @@
-use Rattle.std.proofs.Common.{◌≡◌, inl, inr, arith, sym, subst}
+use Rattle.std.proofs.Common.{◌≡◌, inl, inr, arith, subst}
 use Rattle.std.proofs.lemmas.Bool.{cases_lt}
 use Rattle.dl_instr.specs.Drops.{IsAddedDrop}
 use Rattle.dl_instr.proofs.matching.all_added.Goals as goal

@@ -1,4 +1,4 @@
-use Rattle.std.proofs.Common.{◌≡◌, ◌+◌, ◌-◌, suc, length, arith}
+use Rattle.std.proofs.Common.{◌-◌, arith}
 use Rattle.dl_instr.specs.Code.{op_code}
 use Rattle.dl_instr.proofs.Matched.{matched_late}
 use Rattle.dl_instr.proofs.Refuted.{refuted_none, refuted_end, refuted_gap, refuted_jump, matched_more, all_matched}

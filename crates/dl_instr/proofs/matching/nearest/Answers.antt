@@ -1,4 +1,4 @@
-use Rattle.std.proofs.Common.{◌≡◌, ◌-◌, inl, inr, arith, sym, subst}
+use Rattle.std.proofs.Common.{◌≡◌, ◌-◌, inl, inr, arith, subst}
 use Rattle.std.proofs.lemmas.Bool.{cases_lt}
 use Rattle.dl_instr.specs.Code.{op_code}
 use Rattle.dl_instr.specs.Matching.{Fits}

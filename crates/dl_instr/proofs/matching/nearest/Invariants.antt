@@ -1,4 +1,4 @@
-use Rattle.std.proofs.Common.{◌≡◌, ◌<◌, ◌≤◌, ℕ, Some, slice_get}
+use Rattle.std.proofs.Common.{◌<◌, ◌≤◌, ℕ}
 use Rattle.dl_instr.specs.Code.{op_code}
 use Rattle.dl_instr.specs.Matching.{Fits}
 use Rattle.dl_instr.proofs.matching.nearest.Given as goal

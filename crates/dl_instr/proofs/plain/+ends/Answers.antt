@@ -1,4 +1,4 @@
-use Rattle.std.proofs.Common.{◌≡◌, ◌+◌, [], length, refl, arith}
+use Rattle.std.proofs.Common.{◌≡◌, ◌+◌, length, refl, arith}
 use Rattle.dl_instr.specs.Code.{stmt_code, block_code}
 use Rattle.dl_instr.proofs.PlainSteps.{same_end, added_one, if_else_ends, while_ends}
 use Rattle.dl_instr.proofs.Patches.{not_so}

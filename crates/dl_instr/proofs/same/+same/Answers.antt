@@ -1,4 +1,4 @@
-use Rattle.std.proofs.Common.{◌≡◌, length, arith, ap, refl}
+use Rattle.std.proofs.Common.{length, arith, ap, refl}
 use Rattle.dl_instr.proofs.SameLists.{same_at_each}
 use Rattle.dl_instr.proofs.same.+same.Goals as goal
 

@@ -1,8 +1,5 @@
 use Rattle.std.proofs.Common.{◌≡◌, true, false, refl, ap, sym, ◌∙◌, ◌&&◌}
 use Rattle.std.specs.List.{list_all}
-use Rattle.std.specs.FinMap.{entries}
-use Rattle.dl_ir.specs.declared.names.Name.{Name}
-use Rattle.dl_ir.specs.declared.objects.Obj.{Obj}
 use Rattle.dl_ir.proofs.Members.{Held}
 use Rattle.dl_shape.specs.Forests.{stands_in_forest}
 use Rattle.dl_shape.proofs.Forest.{forest_all, stands_forest}

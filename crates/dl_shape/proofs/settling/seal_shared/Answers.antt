@@ -1,6 +1,5 @@
-use Rattle.std.proofs.Common.{ap, sym, ◌∙◌, arith}
-use Rattle.dl_ir.specs.Heap.{View}
-use Rattle.dl_shape.proofs.Sealing.{seal_step, seal_fewer, seal_end, unsealed}
+use Rattle.std.proofs.Common.{◌∙◌}
+use Rattle.dl_shape.proofs.Sealing.{seal_step, seal_fewer, seal_end}
 use Rattle.dl_shape.proofs.settling.seal_shared.Goals as goal
 
 pub loop-name-smaller : goal.loop-name-smaller
