@@ -6,7 +6,7 @@ mod Matched
 mod Moved
 mod Paths
 mod PlainJumps
-mod PlainSteps
+pub mod PlainSteps
 mod Refuted
 mod Rising
 mod SameLists

@@ -9,6 +9,6 @@ mod Present
 mod StartHeap
 mod Starts
 mod Search
-mod Subsets
+pub mod Subsets
 mod TableEdits
 pub mod Totals

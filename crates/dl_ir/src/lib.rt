@@ -27,3 +27,4 @@ pub use moves::Move;
 pub use names::{Name, Value};
 pub use objects::{Fields, Obj};
 pub use statements::{Block, Stmt};
+pub use tables::Table;

@@ -48,7 +48,7 @@ all_held source h (p ∷ params) [] heap fits = absurd fits
 all_held source h (p ∷ params) (a ∷ rest) heap fits = (one_held source h p.ty a heap fits.0, all_held source h params rest heap fits.1)
 
 -- an operation begins in a state that fits
-begun_fits : (source : Module) (op : OpDecl) (arguments : List ℤ) (h : Objects) (ticket turns : ℕ) → AllFit source op.params arguments → IsHeapOf source h → 0 < ticket → HasTicketsBelow ticket h
+pub begun_fits : (source : Module) (op : OpDecl) (arguments : List ℤ) (h : Objects) (ticket turns : ℕ) → AllFit source op.params arguments → IsHeapOf source h → 0 < ticket → HasTicketsBelow ticket h
     → Fits (context_of source ticket op) (types_of op) (begun op arguments h turns)
 begun_fits source op arguments h ticket turns fits heap positive below =
     first_states_fit (context_of source ticket op) op (given op.params arguments) h turns heap positive below (all_held source h op.params arguments heap fits)

@@ -1,11 +1,11 @@
 mod First
 mod Heaps
-mod Kept
+pub mod Kept
 pub mod Left
 mod One
-mod Places
+pub mod Places
 mod Settled
-mod Sound
+pub mod Sound
 mod Total
-mod Turns
+pub mod Turns
 mod Values

@@ -1,4 +1,4 @@
 pub mod Forest
 pub mod Order
 pub mod Rising
-mod Sealing
+pub mod Sealing
