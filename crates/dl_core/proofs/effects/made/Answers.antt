@@ -1,0 +1,13 @@
+use Rattle.std.proofs.Common.{refl, ap, sym, ◌∙◌}
+use Rattle.dl_ir.specs.declared.names.Name.{Name}
+use Rattle.dl_core.specs.Rooms.{Roomed}
+use Rattle.dl_core.specs.Frames.{Frame}
+use Rattle.dl_core.specs.Shown.{shown, rooms_of}
+use Rattle.dl_core.proofs.Moves.{can_held, can_behind, can_alone, moved_alike}
+use Rattle.dl_core.proofs.effects.made.Goals as goal
+
+pub make_ready-requires : goal.make_ready-requires
+make_ready-requires c =
+    let is = c.hold.ensures.shown in
+    can_held c.args.code.now c.args.frame.now c.hold.new.frame c.args.name c.hold.ensures.rooms
+    (ap (λ (f : Frame). f.call) is) (ap (λ (f : Frame). f.locals) is) c.requires.can (record { kind = c.args.kind; fields = 0 }) (ap (λ (f : Frame). f.book) is) (ap (λ (f : Frame). f.loose) is) c.requires.loose

@@ -1,0 +1,5 @@
+use Rattle.dl_core.proofs.LoneAlways as lone
+use Rattle.dl_core.proofs.laws.lone_runs_end.Goals as goal
+
+pub returns : goal.returns
+returns c = lone.lone_runs_end

@@ -1,0 +1,187 @@
+ghost use Rattle.std.specs.Prelude.{◌≡◌, ℕ, ◌+◌, ◌<◌, ◌^◌, None, Some, [], slice_get};
+ghost use Rattle.std.specs.FinMap as finite;
+ghost use Rattle.dl_ir.specs.References.{target_in as target_of_value};
+ghost use Rattle.dl_core.specs.declared.stages.Booked.{Booked};
+ghost use Rattle.dl_core.specs.Frames.{Frame as Pure, lowered, raised, with_booked, without_booked};
+ghost use Rattle.dl_core.specs.Events.{moved_on, moved_past, seen_by, or_first, has_read as reads, took as takes, saw_sealed as sees, let_go as lets_go, gave_up as gives_up, sealed as seals, made as makes, took_root as takes_root, reserved as reserves};
+ghost use Rattle.dl_core.specs.Plans.{Plan};
+ghost use Rattle.dl_core.specs.Shown.{shown, rooms_of, CanGoOn};
+
+use crate::bits::end;
+use crate::frames::Frame;
+use crate::ready::make_ready;
+use crate::stages::Booked;
+use dl_instr::Code;
+use dl_ir::{End, Name, Value};
+
+// The code goes on, unless a loose object is worked off.
+fn move_on(frame: &mut Frame)
+    requires { frame.old.place + 1 < 2 ^ 64 }
+    ensures shown { shown frame.new ≡ moved_on frame.old.loose.items (shown frame.old) }
+    ensures rooms { rooms_of frame.new ≡ rooms_of frame.old }
+{
+    if frame.loose.get(0).is_none() {
+        frame.place += 1;
+    }
+}
+
+// An object is held from now on, to which so many fields refer.
+fn hold(frame: &mut Frame, name: Name, kind: u32, fields: u32)
+    requires { finite.len frame.old.book.rows < frame.old.book.room }
+    ensures shown { shown frame.new ≡ with_booked name kind fields (shown frame.old) }
+    ensures rooms { rooms_of frame.new ≡ rooms_of frame.old }
+{
+    frame.book.put(name, Booked { kind, fields });
+}
+
+// The object is held no longer.
+fn release(frame: &mut Frame, name: Name)
+    ensures shown { shown frame.new ≡ without_booked name (shown frame.old) }
+    ensures rooms { rooms_of frame.new ≡ rooms_of frame.old }
+{
+    frame.book.remove(name);
+}
+
+/// A field was found to hold this value.
+pub fn has_read(code: &Code, value: Value, frame: &mut Frame)
+    requires can { CanGoOn code.now frame.old }
+    requires place { frame.old.place + 1 < 2 ^ 64 }
+    ensures can { CanGoOn code.now frame.new }
+    ensures shown { (plan : Plan) → plan.code ≡ code.now → shown frame.new ≡ reads plan value (shown frame.old) }
+    ensures rooms { rooms_of frame.new ≡ rooms_of frame.old }
+{
+    move_on(frame);
+    frame.hand = Some(value);
+    make_ready(code, frame);
+}
+
+/// A hidden object of this kind was taken. It was free, so one field refers to it.
+pub fn took(code: &Code, name: Name, kind: u32, frame: &mut Frame)
+    requires can { CanGoOn code.now frame.old }
+    requires place { frame.old.place + 1 < 2 ^ 64 }
+    requires book { finite.len frame.old.book.rows < frame.old.book.room }
+    requires loose { finite.len frame.old.book.rows < frame.old.loose.room }
+    ensures can { CanGoOn code.now frame.new }
+    ensures shown { (plan : Plan) → plan.code ≡ code.now → shown frame.new ≡ takes plan name kind (shown frame.old) }
+    ensures rooms { rooms_of frame.new ≡ rooms_of frame.old }
+{
+    move_on(frame);
+    hold(frame, name, kind, 1);
+    make_ready(code, frame);
+}
+
+// The operation ends, or the field of the object that is being given up may be written.
+fn see(name: Name, frame: &mut Frame)
+    ensures shown { shown frame.new ≡ seen_by frame.old.loose.items name (shown frame.old) }
+    ensures rooms { rooms_of frame.new ≡ rooms_of frame.old }
+{
+    match frame.loose.get(0) {
+        None => end(frame, End::Sealed(name)),
+        Some(_) => frame.seen = true,
+    }
+}
+
+/// An object was found to be sealed.
+pub fn saw_sealed(code: &Code, name: Name, frame: &mut Frame)
+    requires can { CanGoOn code.now frame.old }
+    ensures can { CanGoOn code.now frame.new }
+    ensures shown { (plan : Plan) → plan.code ≡ code.now → shown frame.new ≡ sees plan name (shown frame.old) }
+    ensures rooms { rooms_of frame.new ≡ rooms_of frame.old }
+{
+    see(name, frame);
+    make_ready(code, frame);
+}
+
+/// The first loose object was let go.
+pub fn let_go(code: &Code, name: Name, frame: &mut Frame)
+    requires can { CanGoOn code.now frame.old }
+    requires first { slice_get frame.old.loose.items 0 ≡ Some name }
+    ensures can { CanGoOn code.now frame.new }
+    ensures shown { (plan : Plan) → plan.code ≡ code.now → shown frame.new ≡ lets_go plan name (shown frame.old) }
+    ensures rooms { rooms_of frame.new ≡ rooms_of frame.old }
+{
+    frame.loose.drop_first();
+    release(frame, name);
+    make_ready(code, frame);
+}
+
+/// The first loose object was given up, and its place is spare.
+pub fn gave_up(code: &Code, name: Name, frame: &mut Frame)
+    requires can { CanGoOn code.now frame.old }
+    requires first { slice_get frame.old.loose.items 0 ≡ Some name }
+    requires spares { frame.old.spares + 1 < 2 ^ 32 }
+    ensures can { CanGoOn code.now frame.new }
+    ensures shown { (plan : Plan) → plan.code ≡ code.now → shown frame.new ≡ gives_up plan name (shown frame.old) }
+    ensures rooms { rooms_of frame.new ≡ rooms_of frame.old }
+{
+    frame.loose.drop_first();
+    frame.cursor = 0;
+    frame.spares += 1;
+    release(frame, name);
+    make_ready(code, frame);
+}
+
+// The earlier name, if there is one.
+fn first_of(earlier: Option<Name>, name: Name) -> Option<Name>
+    ensures { result ≡ or_first earlier name }
+{
+    match earlier {
+        Some(earlier) => Some(earlier),
+        None => Some(name),
+    }
+}
+
+/// An object was sealed.
+pub fn sealed(code: &Code, name: Name, frame: &mut Frame)
+    requires can { CanGoOn code.now frame.old }
+    requires none { frame.old.loose.items ≡ [] }
+    ensures can { CanGoOn code.now frame.new }
+    ensures shown { (plan : Plan) → plan.code ≡ code.now → shown frame.new ≡ seals plan name (shown frame.old) }
+    ensures rooms { rooms_of frame.new ≡ rooms_of frame.old }
+{
+    frame.breach = first_of(frame.breach, name);
+    release(frame, name);
+    make_ready(code, frame);
+}
+
+/// An object of this kind was made on a spare place, and nothing but the hand refers to it.
+pub fn made(code: &Code, name: Name, kind: u32, frame: &mut Frame)
+    requires can { CanGoOn code.now frame.old }
+    requires place { frame.old.place + 1 < 2 ^ 64 }
+    requires made { frame.old.made + 1 < 2 ^ 32 }
+    requires book { finite.len frame.old.book.rows < frame.old.book.room }
+    requires loose { finite.len frame.old.book.rows < frame.old.loose.room }
+    ensures can { CanGoOn code.now frame.new }
+    ensures shown { (plan : Plan) → plan.code ≡ code.now → shown frame.new ≡ makes plan name kind (shown frame.old) }
+    ensures rooms { rooms_of frame.new ≡ rooms_of frame.old }
+{
+    frame.made += 1;
+    frame.spares = frame.spares.saturating_sub(1);
+    frame.place += 1;
+    frame.hand = Some(Value::Ref(Some(name)));
+    hold(frame, name, kind, 0);
+    make_ready(code, frame);
+}
+
+/// The next root was taken; no field refers to a root.
+pub fn took_root(number: u32, kind: u32, frame: &mut Frame)
+    requires taken { frame.old.taken + 1 < 2 ^ 64 }
+    requires book { finite.len frame.old.book.rows < frame.old.book.room }
+    ensures shown { shown frame.new ≡ takes_root number kind (shown frame.old) }
+    ensures rooms { rooms_of frame.new ≡ rooms_of frame.old }
+{
+    frame.taken += 1;
+    let name = Name {
+        ticket: 0,
+        index: number,
+    };
+    hold(frame, name, kind, 0);
+}
+
+/// So many places are reserved.
+pub fn reserved(need: u32, frame: &mut Frame)
+    ensures shown { shown frame.new ≡ reserves need (shown frame.old) }
+    ensures rooms { rooms_of frame.new ≡ rooms_of frame.old }
+{
+    frame.spares = need;
+}
