@@ -1,0 +1,4 @@
+pub mod Hands
+pub mod Serving
+pub mod Rooms
+pub mod Covering
