@@ -1,0 +1,4 @@
+pub mod Keeps
+pub mod Views
+pub mod Rooms
+pub mod Ending

@@ -1,0 +1,5 @@
+pub mod Sights
+pub mod Turn
+pub mod Marks
+pub mod Passes
+pub mod Ends

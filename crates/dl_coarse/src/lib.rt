@@ -1,0 +1,14 @@
+//! One turn for all callers: who has it runs its operation to the end.
+#![tactic(auto)]
+
+mod machines;
+mod passes;
+mod rule;
+mod running;
+mod steps;
+mod turns;
+
+pub use machines::Machine;
+pub use passes::{Coarse, Note, Pass};
+pub use rule::{Hold, Turn};
+pub use steps::Words;
