@@ -1,0 +1,10 @@
+pub mod Lists
+pub mod Weights
+pub mod Moving
+pub mod Vacant
+pub mod WordSteps
+pub mod PlaceSteps
+pub mod Keeps
+pub mod SeatSteps
+pub mod Openings
+pub mod Rivals
