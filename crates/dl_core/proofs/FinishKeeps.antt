@@ -24,7 +24,6 @@ use Rattle.dl_core.specs.declared.objects.Mark.TheVariants.{Free, Held, Sealed}
 use Rattle.dl_core.specs.declared.stages.Finished.{Finished}
 use Rattle.dl_core.specs.declared.stages.Versions.{Versions}
 use Rattle.dl_core.specs.declared.stages.Stage.TheVariants as stages
-use Rattle.dl_core.specs.Codes.{HasGoodCode}
 use Rattle.dl_core.specs.Heaps.{Heap, IsHeld}
 use Rattle.dl_core.specs.Plans.{Plan, IsPlan, IsCaller, source_of, allocs_of}
 use Rattle.dl_core.specs.Frames.{Frame, IsEntered}
@@ -95,7 +94,7 @@ leave_apart heap tickets tickets' c left same apart = record {
     ]
     by t (Sealed k) up = up
 
-module _ (plan : Plan) (core : Core) (calls : Calls) (caller : ℕ) (is : IsPlan plan) (lawful : IsLawful plan core calls) (sound : IsSound plan core calls) (good : HasGoodCode plan) (end : End) (w : Works plan core calls caller is lawful sound good)
+module _ (plan : Plan) (core : Core) (calls : Calls) (caller : ℕ) (is : IsPlan plan) (lawful : IsLawful plan core calls) (sound : IsSound plan core calls) (end : End) (w : Works plan core calls caller is lawful sound)
     (empty : finite.entries (frame_of core.world caller).book ≡ []) where
   abbrev heap : Heap
   heap = core.world.heap
@@ -125,7 +124,7 @@ module _ (plan : Plan) (core : Core) (calls : Calls) (caller : ℕ) (is : IsPlan
   e = entry_of caller (finish_of end frame, made)
 
   pub one : IsCaller plan caller
-  one = busy_caller plan core calls sound caller (not_idle plan core calls caller is lawful sound good frame.stage w.2.stage)
+  one = busy_caller plan core calls sound caller (not_idle plan core calls caller is lawful sound frame.stage w.2.stage)
 
   abbrev world' : Shared
   world' = world plan core calls caller lawful sound one next

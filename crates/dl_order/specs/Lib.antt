@@ -1,3 +1,5 @@
 pub mod Lengths
+pub mod Serial
 pub mod Measure
 pub mod Ends
+pub mod Found

@@ -1,5 +1,5 @@
 // What is proved of every order in which callers are given steps.
-ghost use Rattle.dl_core.specs.Laws.{NoCycle, NoSeal, SerialAlways, WaitsForHigherRoots, WaitsForOlder};
+ghost use Rattle.dl_order.specs.Serial.{NoCycle, NoSeal, SerialAlways, WaitsForHigherRoots, WaitsForOlder};
 ghost use Rattle.dl_order.specs.Ends.{RunsClose, RunsEnd};
 ghost use Rattle.dl_order.specs.Measure.{BeginsFall, EachRunEnds, OldestMoves, OneStepLess, RestsAreOne, SomeoneMoves, StepsFall};
 
