@@ -234,7 +234,7 @@ module _ (plan : Plan) (core : Core) (calls : Calls) (caller : ℕ) (is : IsPlan
           row_of name (Some object) (Some (record object { mark = Held caller })) outcome there (ap (λ (o : Acted). o.1) (sym (same_some e)))
           (takes from m (link_hidden heap lawful.free_refs from name link) held link)
       by_mark object there (Held other) m e = absurd (no_take e)
-      by_mark object there (Sealed ticket) m e = row_of name (Some object) (Some object) outcome there (ap (λ (o : Acted). o.1) (sym (same_some e))) (sees ticket m)
+      by_mark object there (Sealed ticket) m e = row_of name (Some object) (Some object) outcome there (ap (λ (o : Acted). o.1) (sym (same_some e))) (sees ticket from m (link_hidden heap lawful.free_refs from name link) held link)
 
       by : (found : Option Object) → finite.get heap name ≡ found → act plan caller frame (Takes name) found ≡ Some outcome → Row name (finite.get heap name) outcome.1
       by None p e = absurd (no_take e)

@@ -53,7 +53,7 @@ entries_push c (x ∷ fs) [] f v e = absurd (omega (arith, e))
 entries_push c (x ∷ fs) (y ∷ vs) f v e = ap (λ es. entry_of c (x, y) ∷ es) (entries_push c fs vs f v (omega (arith, e)))
 
 -- where no entry has an index, no finished operation has
-not_counted : (c n : ℕ) (fs : List Finished) (vs : List Versions) → length fs ≡ length vs → runs_of c n (map (entry_of c) (zip fs vs)) ≡ 0 → All (λ (kept : Finished). kept.index ≢ n) fs
+pub not_counted : (c n : ℕ) (fs : List Finished) (vs : List Versions) → length fs ≡ length vs → runs_of c n (map (entry_of c) (zip fs vs)) ≡ 0 → All (λ (kept : Finished). kept.index ≢ n) fs
 not_counted c n [] vs e z = λ k d lt. absurd (omega (arith, lt))
 not_counted c n (f ∷ fs) [] e z = absurd (omega (arith, e))
 not_counted c n (f ∷ fs) (v ∷ vs) e z = by (sum_by-cons (λ (x : Entry). cond ((x.caller == c) && (x.index == n)) 1 0) (entry_of c (f, v)) (map (entry_of c) (zip fs vs))) (not_counted c n fs vs (omega (arith, e)))

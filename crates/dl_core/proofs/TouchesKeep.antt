@@ -92,7 +92,7 @@ below_clock plan core calls sound caller c entered =
 module _ (plan : Plan) (core : Core) (calls : Calls) (sound : IsSound plan core calls) (caller : ℕ) (name : Name) (bound : ticket_in core.world caller ≤ core.clock) where
   row_names : (o o' : Option Object) → May core.world.heap (ticket_in core.world) caller name o o' → finite.get core.world.heap name ≡ o → name.ticket ≤ core.clock
   row_names o o' (reads {object} m) e = sound.tickets.names name object e
-  row_names o o' (sees {object} t m) e = sound.tickets.names name object e
+  row_names o o' (sees {object} t source m no_root holder link) e = sound.tickets.names name object e
   row_names o o' (writes {object} f v m a b) e = sound.tickets.names name object e
   row_names o o' (takes {object} from m a b c) e = sound.tickets.names name object e
   row_names o o' (takes_root {object} m a b) e = sound.tickets.names name object e
@@ -103,7 +103,7 @@ module _ (plan : Plan) (core : Core) (calls : Calls) (sound : IsSound plan core 
 
   row_seals : (o o' : Option Object) → May core.world.heap (ticket_in core.world) caller name o o' → finite.get core.world.heap name ≡ o → (b : Object) (t : ℕ) → o' ≡ Some b → b.mark ≡ Sealed t → (t ≤ core.clock) × IsHidden name
   row_seals o o' (reads {object} m) e b t f s = absurd (held_sealed (sym m ∙ ap (λ (w : Object). w.mark) (same_some f) ∙ s))
-  row_seals o o' (sees {object} u m) e b t f s = sound.tickets.seals name object t e (ap (λ (w : Object). w.mark) (same_some f) ∙ s)
+  row_seals o o' (sees {object} u source m no_root holder link) e b t f s = sound.tickets.seals name object t e (ap (λ (w : Object). w.mark) (same_some f) ∙ s)
   row_seals o o' (writes {object} fd v m x y) e b t f s = absurd (held_sealed (sym m ∙ ap (λ (w : Object). w.mark) (same_some f) ∙ s))
   row_seals o o' (takes {object} from m x y z) e b t f s = absurd (held_sealed (ap (λ (w : Object). w.mark) (same_some f) ∙ s))
   row_seals o o' (takes_root {object} m x y) e b t f s = absurd (held_sealed (ap (λ (w : Object). w.mark) (same_some f) ∙ s))
@@ -114,7 +114,7 @@ module _ (plan : Plan) (core : Core) (calls : Calls) (sound : IsSound plan core 
 
   row_root : IsEntered (frame_of core.world caller) → (o o' : Option Object) → May core.world.heap (ticket_in core.world) caller name o o' → finite.get core.world.heap name ≡ o → (b : Object) → o' ≡ Some b → b.mark ≡ Held caller → name.ticket ≡ 0 → IsHeld core.world.heap caller name
   row_root entered o o' (reads {object} m) e b f s z = record { object = object; there = e; held = m }
-  row_root entered o o' (sees {object} u m) e b f s z = absurd (held_sealed (sym s ∙ ap (λ (w : Object). w.mark) (sym (same_some f)) ∙ m))
+  row_root entered o o' (sees {object} u source m no_root holder link) e b f s z = absurd (held_sealed (sym s ∙ ap (λ (w : Object). w.mark) (sym (same_some f)) ∙ m))
   row_root entered o o' (writes {object} fd v m x y) e b f s z = record { object = object; there = e; held = m }
   row_root entered o o' (takes {object} from m hidden x y) e b f s z = absurd (omega (arith, hidden, z))
   row_root entered o o' (takes_root {object} m x waiting) e b f s z = absurd (omega (arith, entered, waiting))

@@ -200,7 +200,8 @@ hand_left (Some value) = 1
 abbrev pub steps_left : Plan → Frame → ℕ
 steps_left plan frame = 2 * stage_left plan frame frame.stage + hand_left frame.hand
 
--- the frame to which local steps lead, at which an event comes next
+-- the frame to which local steps lead, at which an event comes next. Any number of steps that suffices gives the same frame; that this
+-- one does is a law, `IsReady` of every frame of a state to which a run comes
 abbrev pub ready : Plan → Frame → Frame
 ready plan frame = go_on (local_step plan) (steps_left plan frame) frame
 

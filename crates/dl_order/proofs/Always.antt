@@ -160,6 +160,7 @@ serial_always plan core calls is reached =
       rests = record { callers = serial.callers; are = row_runs core.world core.clock serial.callers serial.row; runs = serial.runs };
       entered = row_finishes plan is calls core.clock core.world serial.end serial.callers (record { core = core; is = refl; clock_is = refl; reached = reached }) serial.row serial.runs;
       others = λ caller none_now. turn_frame (rules_of plan) serial.callers core.world serial.end serial.runs caller (none_entered core.world caller serial.callers none_now serial.row.entered);
+      all = serial.replay.clock_is;
       heap = serial.replay.heap_is;
       legal = serial.replay.legal;
       returns = serial.replay.returns;

@@ -457,7 +457,7 @@ module _ (plan : Plan) (is : IsPlan plan) (core : Core) (calls : Calls) (reached
   unsealed closed = never_seals source calls plan.heap (history_in plan core) all_of_module closed legal
 
   is_run : IsRun plan core calls
-  is_run = record { covers = covers; legal = legal; pool = pool; unsealed = unsealed; refusals = refusals_stand; heap = heap_is; free = free; of_module = sound.heap; one_field = one_field }
+  is_run = record { covers = covers; legal = legal; pool = pool; unsealed = unsealed; refusals = refusals_stand; heap = heap_is; free = free; again = record { of_module = sound.heap; one_field = one_field; room = omega (arith, free) } }
 
 pub runs_end : RunsEnd
 runs_end plan core calls is reached resting = is_run plan is core calls reached resting

@@ -252,7 +252,7 @@ holders_are_callers plan core calls is reached =
 -- the object that goes has no field that refers to a name
 gone : (shared : Heap) (tickets : ℕ → ℕ) (caller : ℕ) (name : Name) (object : Object) (found left : Option Object) → May shared tickets caller name found left → found ≡ Some object → left ≡ None → (other : Name) → refs_in other object ≡ 0
 gone shared tickets caller name object found left (reads m) e f other = absurd (no_some (sym f))
-gone shared tickets caller name object found left (sees ticket m) e f other = absurd (no_some (sym f))
+gone shared tickets caller name object found left (sees ticket from m hidden held link) e f other = absurd (no_some (sym f))
 gone shared tickets caller name object found left (writes field value m lose may) e f other = absurd (no_some (sym f))
 gone shared tickets caller name object found left (takes from m hidden held link) e f other = absurd (no_some (sym f))
 gone shared tickets caller name object found left (takes_root m root_is unentered) e f other = absurd (no_some (sym f))

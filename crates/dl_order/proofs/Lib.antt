@@ -19,3 +19,6 @@ pub mod Falls
 pub mod Ending
 pub mod Closes
 pub mod Found
+pub mod Given
+pub mod Answering
+pub mod Small

@@ -151,8 +151,8 @@ module _ (plan : Plan) (is : IsPlan plan) (core : Core) (calls : Calls) (reached
         by called z (for_places need e all few) = someone (asks_moves holder need e)
         by called z (for_a_ticket e enough no_more) = someone (enters_moves holder e)
         by called z (for_a_root higher_one e there) =
-            let higher = for_roots plan core calls holder is (lawful_always plan core calls is reached) (root higher_one) (root number) z (ap target_of_take e) held in
-            behind_one holder called (omega (arith, higher.2, here, wanted_is (frame_of core.world holder) higher_one there))
+            let higher = for_roots plan core calls holder is (lawful_always plan core calls is reached) (root higher_one) z (ap target_of_take e) in
+            behind_one holder called (omega (arith, (higher.1 (root number) held).1, here, wanted_is (frame_of core.world holder) higher_one there))
 
     turn_of : (caller : ℕ) → (frame_of core.world caller).stage ≡ stages.Called → Turn caller
     turn_of caller called = let stands = stands_called caller called in by stands.0 stands.2

@@ -84,11 +84,11 @@ module _ (plan : Plan) (core : Core) (calls : Calls) (caller : ℕ) (is : IsPlan
                 (λ same. waits.apart (sym (kept.sound.tickets.own other caller entered same))),
           )
 
-  pub for_roots : (wanted held : Name) → frame.ticket ≡ 0 → target_of_take (due plan frame) ≡ Some wanted → IsHeld heap caller held → (wanted.ticket ≡ 0) × (held.ticket ≡ 0) × (held.index < wanted.index)
-  for_roots wanted held z takes h = by (takes_next wanted takes)
+  pub for_roots : (wanted : Name) → frame.ticket ≡ 0 → target_of_take (due plan frame) ≡ Some wanted → (wanted.ticket ≡ 0) × ((held : Name) → IsHeld heap caller held → (held.ticket ≡ 0) × (held.index < wanted.index))
+  for_roots wanted z takes = by (takes_next wanted takes)
     where
-      by : TakesNext core.world caller wanted → (wanted.ticket ≡ 0) × (held.ticket ≡ 0) × (held.index < wanted.index)
-      by (a_root root_is waits above) = let r = above held h in (root_is, r.0, r.1)
+      by : TakesNext core.world caller wanted → (wanted.ticket ≡ 0) × ((held : Name) → IsHeld heap caller held → (held.ticket ≡ 0) × (held.index < wanted.index))
+      by (a_root root_is waits above) = (root_is, above)
       by (a_target e from holder link) = absurd (omega (arith, z, e))
 
 -- along callers that each wait for the next
@@ -120,8 +120,8 @@ module _ (plan : Plan) (is : IsPlan plan) (core : Core) (calls : Calls) (reached
       by : (wanted : Name) → Ahead wanted mid → Ahead wanted other
       by wanted (runs_on entered) = runs_on (for_older plan core calls mid is (lawful_always plan core calls is reached) other entered waits).0
       by wanted (holds_root w name held le) =
-          let higher = for_roots plan core calls mid is (lawful_always plan core calls is reached) waits.name name w waits.takes held in
-          next_ahead wanted other waits.name waits.held (omega (arith, higher.2, le))
+          let higher = for_roots plan core calls mid is (lawful_always plan core calls is reached) waits.name w waits.takes in
+          next_ahead wanted other waits.name waits.held (omega (arith, (higher.1 name held).1, le))
 
   no_cycle_here : (caller : ℕ) → Waits plan core.world caller caller → ⊥
   no_cycle_here caller waits = elim (either_way caller) [
@@ -132,8 +132,8 @@ module _ (plan : Plan) (is : IsPlan plan) (core : Core) (calls : Calls) (reached
       by : (frame_of core.world caller).ticket ≡ 0 → (wanted : Name) → target_of_take (due plan (frame_of core.world caller)) ≡ Some wanted → Ahead wanted caller → ⊥
       by z wanted takes (runs_on entered) = omega (arith, z, entered)
       by z wanted takes (holds_root w name held le) =
-          let higher = for_roots plan core calls caller is (lawful_always plan core calls is reached) wanted name z takes held in
-          omega (arith, higher.2, le)
+          let higher = for_roots plan core calls caller is (lawful_always plan core calls is reached) wanted z takes in
+          omega (arith, (higher.1 name held).1, le)
 
 pub no_cycle : NoCycle
 no_cycle plan core calls caller is reached waits = no_cycle_here plan is core calls reached caller waits
@@ -142,4 +142,4 @@ pub waits_for_older : WaitsForOlder
 waits_for_older plan core calls caller other is reached entered waits = for_older plan core calls caller is (lawful_always plan core calls is reached) other entered waits
 
 pub waits_for_higher_roots : WaitsForHigherRoots
-waits_for_higher_roots plan core calls caller other held is reached z waits h = for_roots plan core calls caller is (lawful_always plan core calls is reached) waits.name held z waits.takes h
+waits_for_higher_roots plan core calls caller other is reached z waits = for_roots plan core calls caller is (lawful_always plan core calls is reached) waits.name z waits.takes

@@ -16,7 +16,7 @@ use Rattle.dl_core.specs.declared.stages.Stage.TheVariants as stages
 use Rattle.dl_core.specs.Heaps.{Heap, field_of, IsHeld}
 use Rattle.dl_core.specs.Plans.{Plan, IsPlan, IsCaller}
 use Rattle.dl_core.specs.Frames.{Frame, IsEntered, has_booked, target_at, target_in_hand}
-use Rattle.dl_core.specs.LocalSteps.{due}
+use Rattle.dl_core.specs.LocalSteps.{IsReady, due}
 use Rattle.dl_core.specs.Events.{aim, made_object}
 use Rattle.dl_core.specs.Core.{Core, frame_of, lock_of, step, stepped, with_call}
 use Rattle.dl_core.specs.Reached.{Calls, IsReached}
@@ -112,3 +112,7 @@ AnswersAreRight = (plan : Plan) (core after : Core) (calls : Calls) (caller : �
 -- and it waits wherever another holds that
 abbrev pub TakersWait : Type 0
 TakersWait = (plan : Plan) (core : Core) (calls : Calls) (caller by : ℕ) → IsPlan plan → IsReached plan core calls → (waits : WaitsFor plan core.world caller by) → stepped plan core caller ≡ (core, progress.Waiting (lock_of waits.name) by)
+
+-- no local step comes first at the frame of any caller
+abbrev pub FramesAreReady : Type 0
+FramesAreReady = (plan : Plan) (core : Core) (calls : Calls) (caller : ℕ) → IsPlan plan → IsReached plan core calls → IsReady plan (frame_of core.world caller)
