@@ -78,7 +78,7 @@ module _ (plan : Plan) (is : IsPlan plan) where
       by (works call e w) = absurd (nowhere_unentered plan is core calls reached caller (ap aim_of enters) e)
 
   -- where nobody else runs, the operation that enters has just entered
-  just_entered : (core : Core) (calls : Calls) (caller : ℕ) → IsReached plan core calls → IsEntering plan calls caller (frame_of core.world caller) → caller < length core.world.frames
+  pub just_entered : (core : Core) (calls : Calls) (caller : ℕ) → IsReached plan core calls → IsEntering plan calls caller (frame_of core.world caller) → caller < length core.world.frames
       → ((other : ℕ) → IsEntered (frame_of core.world other) → ⊥)
       → HasJustEntered plan (with_frame core.world caller (entered plan (core.clock + 1) (frame_of core.world caller))) caller (core.clock + 1) (frame_of core.world caller).call
   just_entered core calls caller reached e lt nobody =

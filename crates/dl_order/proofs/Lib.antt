@@ -22,3 +22,4 @@ pub mod Found
 pub mod Given
 pub mod Answering
 pub mod Small
+pub mod Looking

@@ -3,3 +3,4 @@ pub mod Serial
 pub mod Measure
 pub mod Ends
 pub mod Found
+pub mod Example

@@ -1,7 +1,7 @@
 // What is proved of every order in which callers are given steps.
 ghost use Rattle.dl_order.specs.Ends.{RunsClose, RunsEnd};
 ghost use Rattle.dl_order.specs.Found.{AllIsThere, AnswersAreRight, EmptyObjectsComeAndGo, FramesAreReady, HoldersAreCallers, NamesAreGivenOnce, NumbersAreSmall, TakersWait};
-ghost use Rattle.dl_order.specs.Measure.{BeginsFall, EachRunEnds, OldestMoves, OneStepLess, RestsAreOne, SomeoneMoves, StepsFall};
+ghost use Rattle.dl_order.specs.Measure.{BeginsFall, EachRunCanEnd, EachRunEnds, OldestMoves, OneStepLess, RestsAreOne, SomeoneMoves, StepsFall};
 ghost use Rattle.dl_order.specs.Serial.{LoneStepsAreSteps, NoCycle, NoSeal, SerialAlways, WaitsForHigherRoots, WaitsForOlder};
 
 /// That the running operations of each state end, alone and one after another, in the replay of all that entered, in rising
@@ -80,6 +80,11 @@ pub fn steps_fall()
 /// That every run ends, whichever callers are given steps.
 pub fn each_run_ends()
     ensures { EachRunEnds }
+{}
+
+/// That steps can be given until no caller has a call in hand.
+pub fn each_run_can_end()
+    ensures { EachRunCanEnd }
 {}
 
 /// That what a caller's next event touches is there, unless it is made then, and so is what a frame names and a field refers to.
