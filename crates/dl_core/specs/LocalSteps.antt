@@ -1,6 +1,5 @@
 -- What a caller does next: a local step, which changes its own frame alone, or an event.
-use Rattle.std.specs.Prelude.{◌≡◌, ◌+◌, ◌-◌, ◌*◌, ◌<◌, ◌==◌, ◌&&◌, ◌||◌, ◌⊎◌, ℕ, suc, ℤ, pos, Bool, true, false, Option, Some, None, Ok, Err, List, [], ◌∷◌, drop, length, slice_get, count_by, is_some, nat_le, nat_lt, if◌then◌else◌}
-use Rattle.std.specs.Option.{option_map}
+use Rattle.std.specs.Prelude.{◌≡◌, ◌+◌, ◌-◌, ◌==◌, ◌&&◌, ◌||◌, ℕ, ℤ, pos, Bool, true, false, Option, Some, None, Ok, Err, List, [], ◌∷◌, slice_get, nat_le, nat_lt, if◌then◌else◌}
 use Rattle.std.specs.FinMap as finite
 use Rattle.dl_ir.specs.declared.answers.End.{End}
 use Rattle.dl_ir.specs.declared.answers.End.TheVariants as ends

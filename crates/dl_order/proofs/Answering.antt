@@ -1,5 +1,5 @@
 -- What a caller that is given a step is answered, and that the steps of a lone run are steps of the machine.
-use Rattle.std.proofs.Common.{◌≡◌, ◌≢◌, inl, inr, ℕ, ◌<◌, Bool, true, false, Option, Some, None, refl, sym, ap, ap₂, subst, ◌∙◌, arith}
+use Rattle.std.proofs.Common.{◌≡◌, ◌≢◌, ℕ, ◌<◌, Bool, true, false, Option, Some, None, refl, sym, ap, ap₂, subst, ◌∙◌, arith}
 use Rattle.std.specs.Prelude.{◌↔◌, nat_lt, if◌then◌else◌}
 use Rattle.std.specs.FinMap as finite
 use Rattle.std.proofs.lemmas.Bool.Decides.{nat_tests}
@@ -20,11 +20,10 @@ use Rattle.dl_core.specs.Frames.{Frame, IsEntered}
 use Rattle.dl_core.specs.LocalSteps.{due}
 use Rattle.dl_core.specs.Events.{Acted, act, aim, take, take_root, event_of}
 use Rattle.dl_core.specs.Steps.{step_by}
-use Rattle.dl_core.specs.Core.{Core, Shared, Stepped, frame_of, rules_of, aim_of, with_event, touches, asks, refuses, reserves, step_due, step, stands, waits_for, waits_at, or_stands, stepped, lock_of}
+use Rattle.dl_core.specs.Core.{Core, Shared, Stepped, frame_of, rules_of, aim_of, with_event, touches, refuses, reserves, step_due, step, stands, waits_for, waits_at, or_stands, stepped, lock_of}
 use Rattle.dl_core.specs.Reached.{Calls, IsReached}
 use Rattle.dl_core.specs.Reach.{WaitsFor, target_of_take}
 use Rattle.dl_core.specs.Sound.{Stands, idles, waits, works}
-use Rattle.dl_core.specs.Laws.{IsKept}
 use Rattle.dl_core.proofs.Diamond.{step→moves, moves→step}
 use Rattle.dl_core.proofs.LawfulAlways.{lawful_always}
 use Rattle.dl_core.proofs.Machine.{StepIs, reserves_now, refuses_now, enters_now, finishes_now, touches_one, step_is, touch_moves, finish_moves}
@@ -193,15 +192,13 @@ module _ (plan : Plan) (core : Core) (calls : Calls) (caller : ℕ) (is : IsPlan
 
   waits_so : (d : Due) (name : Name) (object : Object) (other : ℕ) → target_of_take d ≡ Some name → finite.get heap name ≡ Some object → object.mark ≡ marks.Held other → (step_due plan core caller frame d ≡ None) × (aim d ≡ Some name)
   waits_so (TakesRoot number) name object other takes there m =
-      let at : finite.get heap (root number) ≡ Some object = ap (finite.get heap) (same_some takes) ∙ there in
-      (
+      let at : finite.get heap (root number) ≡ Some object = ap (finite.get heap) (same_some takes) ∙ there in (
         ap (λ o. with_event core caller (root number) (event_of (TakesRoot number) o) (act plan caller frame (TakesRoot number) o)) at
             ∙ ap (λ k. with_event core caller (root number) (event_of (TakesRoot number) (Some object)) (take_root caller number frame object k)) m,
         takes,
       )
   waits_so (Takes wanted) name object other takes there m =
-      let at : finite.get heap wanted ≡ Some object = ap (finite.get heap) (same_some takes) ∙ there in
-      (
+      let at : finite.get heap wanted ≡ Some object = ap (finite.get heap) (same_some takes) ∙ there in (
         ap (λ o. with_event core caller wanted (event_of (Takes wanted) o) (act plan caller frame (Takes wanted) o)) at
             ∙ ap (λ k. with_event core caller wanted (event_of (Takes wanted) (Some object)) (take plan caller wanted frame object k)) m,
         takes,

@@ -3,18 +3,16 @@ use Rattle.std.proofs.Common.{◌≡◌, ◌≢◌, inl, inr, arith, ℕ, ◌<�
 use Rattle.dl_ir.specs.declared.answers.End.{End}
 use Rattle.dl_core.specs.Plans.{Plan, IsPlan}
 use Rattle.dl_core.specs.Frames.{Frame, IsEntered}
-use Rattle.dl_core.specs.declared.dues.Due.TheVariants.{Finishes}
 use Rattle.dl_core.specs.LocalSteps.{due}
 use Rattle.dl_core.specs.Events.{finished, finish_of}
 use Rattle.dl_core.specs.Steps.{Nowhere, Alone, over, then_on, InTurn, none, next}
-use Rattle.dl_core.specs.Core.{Core, Shared, frame_of, rules_of, aim_of, finished_by}
+use Rattle.dl_core.specs.Core.{Shared, frame_of, rules_of, aim_of, finished_by}
 use Rattle.dl_core.specs.Reached.{Calls}
 use Rattle.dl_core.specs.Reach.{ticket_in}
 use Rattle.dl_core.proofs.Diamond.{Touch, Leaves, Puts, Acts, Moves, step→moves}
-use Rattle.dl_core.proofs.Names.{same_number}
 use Rattle.dl_order.specs.Serial.{IsFinishedBy}
 use Rattle.dl_order.proofs.Keeping.{touch_one}
-use Rattle.dl_order.proofs.Lists.{Each, In, Up, each_in}
+use Rattle.dl_order.proofs.Lists.{Each, In, Up}
 use Rattle.dl_order.proofs.Runs.{IsNone, alone_frame, turn_frame, alone_inv, last_run}
 use Rattle.dl_order.proofs.Serial.{IsRow}
 use Rattle.dl_order.proofs.Worlds.{IsWorldOf, IsOther, Comes, inside_is, new_frame, has_frame, nowhere_unentered, world_kept, ordered}

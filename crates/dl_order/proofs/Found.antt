@@ -1,15 +1,11 @@
 -- What is named is there, and who has what another takes.
-use Rattle.std.proofs.Common.{◌≡◌, ◌≢◌, inl, inr, ℕ, ◌<◌, ℤ, true, false, Bool, ◌||◌, ap₂, List, [], ◌∷◌, Option, Some, None, refl, sym, ap, subst, ◌∙◌, arith}
-use Rattle.std.specs.Prelude.{All, Contains, slice_get, is_some}
+use Rattle.std.proofs.Common.{◌≡◌, ◌≢◌, ℕ, ℤ, true, false, Bool, ◌||◌, ap₂, List, [], ◌∷◌, Option, Some, None, refl, sym, ap, subst, ◌∙◌, arith}
+use Rattle.std.specs.Prelude.{slice_get, is_some}
 use Rattle.std.specs.Option.{option_map}
 use Rattle.std.specs.FinMap as finite
-use Rattle.dl_ir.specs.declared.answers.End.{End}
-use Rattle.dl_ir.specs.declared.modules.OpDecl.{OpDecl}
 use Rattle.dl_ir.specs.declared.names.Name.{Name}
-use Rattle.dl_ir.specs.declared.names.Value.{Value}
 use Rattle.dl_ir.specs.declared.names.Value.TheVariants.{Int, Ref}
 use Rattle.dl_ir.specs.declared.objects.Obj.{Obj}
-use Rattle.dl_ir.specs.Evaluation.{target_of}
 use Rattle.dl_ir.specs.Heap.{IsHidden, root}
 use Rattle.dl_ir.specs.References.{target_in}
 use Rattle.dl_instr.specs.declared.steps.Step.{Step}
@@ -17,7 +13,7 @@ use Rattle.dl_instr.specs.declared.steps.Step.TheVariants.{Read, Want, Set, Drop
 use Rattle.dl_instr.specs.declared.steps.Origin.TheVariants as origins
 use Rattle.dl_instr.specs.declared.steps.Content.TheVariants as contents
 use Rattle.dl_core.specs.declared.dues.Due.{Due}
-use Rattle.dl_core.specs.declared.dues.Due.TheVariants.{Makes, GivesUp}
+use Rattle.dl_core.specs.declared.dues.Due.TheVariants.{Makes}
 use Rattle.dl_core.specs.declared.objects.Object.{Object}
 use Rattle.dl_core.specs.declared.stages.Stage.{Stage}
 use Rattle.dl_core.specs.declared.stages.Stage.TheVariants as stages
@@ -25,17 +21,17 @@ use Rattle.dl_core.specs.declared.stages.Booked.{Booked}
 use Rattle.dl_core.specs.Heaps.{Heap, field_of, refs_in, plain_object, IsHeld}
 use Rattle.dl_core.specs.Plans.{Plan, IsPlan, source_of, steps_of, roots_of}
 use Rattle.dl_core.specs.Frames.{Frame, has_booked, target_at, target_in_hand}
-use Rattle.dl_core.specs.LocalSteps.{due, next_name}
+use Rattle.dl_core.specs.LocalSteps.{due}
 use Rattle.dl_core.specs.Events.{act, aim, gave_up}
 use Rattle.dl_core.specs.Core.{Core, frame_of}
-use Rattle.dl_core.specs.Reached.{Calls, IsReached}
+use Rattle.dl_core.specs.Reached.{Calls}
 use Rattle.dl_core.specs.Reach.{Dominates, target_of_take, ticket_in}
 use Rattle.dl_core.specs.Changes.{May, reads, sees, writes, takes, takes_root, seals, gives_up, makes}
 use Rattle.dl_core.specs.Changes as rows
-use Rattle.dl_core.specs.Sound.{HasCall, Stands, idles, waits, works, IsWorking, IsLoose, HandAt, HandWhile, HandBefore, HasCleared, clears, lets_go, IsClearing, IsFieldInHand}
+use Rattle.dl_core.specs.Sound.{HasCall, Stands, idles, waits, works, IsLoose, HandAt, HandWhile, HandBefore, HasCleared, clears, lets_go}
 use Rattle.dl_core.specs.Laws.{IsKept}
 use Rattle.dl_core.proofs.Dominates.{events_dominate}
-use Rattle.dl_core.proofs.Events.{events_may, made_null, Works, works_running, works_loose, local_held, booked_held, loose_held, cleared, held_cleared, cleared_hand, hand_before}
+use Rattle.dl_core.proofs.Events.{events_may, made_null, Works, works_running, works_loose, local_held, booked_held, loose_held, cleared, cleared_hand, hand_before}
 use Rattle.dl_core.proofs.LawfulAlways.{lawful_always}
 use Rattle.dl_core.proofs.Maps.{AreEntries, entries_are, names}
 use Rattle.dl_core.proofs.Names.{same_some, no_some, no_bool}
@@ -44,7 +40,7 @@ use Rattle.dl_core.proofs.Rows.{target_held, target_value, field_refers}
 use Rattle.dl_core.proofs.Typing.{field_names}
 use Rattle.dl_core.proofs.Why as why
 use Rattle.dl_core.proofs.Why.{Why, IsGivenUp}
-use Rattle.dl_order.specs.Found.{IsThere, IsNamedBy, in_the_book, by_a_local, by_the_hand, in_the_list, HasAllThere, AllIsThere, HasHolders, HoldersAreCallers, EmptyObjectsComeAndGo}
+use Rattle.dl_order.specs.Found.{IsThere, IsNamedBy, in_the_book, by_a_local, by_the_hand, in_the_list, AllIsThere, HoldersAreCallers, EmptyObjectsComeAndGo}
 use Rattle.dl_order.proofs.Lists.{In, each_in, all_each, contains_in}
 use Rattle.dl_order.proofs.Progress.{root_of_call}
 

@@ -1,9 +1,8 @@
 -- Names are given once.
-use Rattle.std.proofs.Common.{◌≡◌, ◌≢◌, ◌⊎◌, get_or, inl, inr, ℕ, ◌+◌, ◌<◌, ◌≤◌, length, List, set, Option, Some, refl, sym, ap, subst, ◌∙◌, arith}
+use Rattle.std.proofs.Common.{◌≡◌, ◌≢◌, ◌⊎◌, get_or, inl, inr, ℕ, ◌+◌, ◌≤◌, length, set, refl, sym, ap, subst, ◌∙◌, arith}
 use Rattle.std.specs.FinMap as finite
 use Rattle.std.proofs.lemmas.Bool.{cases_lt}
 use Rattle.std.proofs.lemmas.List.{get_or-set_same, get_or-set_other, get_or_past, length-set}
-use Rattle.dl_ir.specs.declared.calls.Call.{Call}
 use Rattle.dl_ir.specs.declared.names.Name.{Name}
 use Rattle.dl_ir.specs.Heap.{IsHidden}
 use Rattle.dl_core.specs.declared.dues.Due.{Due}
@@ -14,7 +13,7 @@ use Rattle.dl_core.specs.Frames.{Frame, IsEntered, idle}
 use Rattle.dl_core.specs.LocalSteps.{due, next_name}
 use Rattle.dl_core.specs.Events.{begun, reserved, refused, entered, finished}
 use Rattle.dl_core.specs.Core.{Core, frame_of, with_call}
-use Rattle.dl_core.specs.Reached.{Calls, IsReached}
+use Rattle.dl_core.specs.Reached.{Calls}
 use Rattle.dl_core.specs.Reach.{ticket_in}
 use Rattle.dl_core.specs.Sound.{Stands, idles, waits, works}
 use Rattle.dl_core.specs.Laws.{IsKept}

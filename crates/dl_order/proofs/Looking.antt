@@ -1,6 +1,6 @@
 -- A small plan is one, its serial runs seal nothing, and a run of it comes to the states that the example tells of.
-use Rattle.std.proofs.Common.{◌≡◌, ◌≢◌, inl, inr, ℕ, zero, suc, ℤ, pos, ◌+◌, ◌<◌, ◌≤◌, true, false, Bool, List, [], ◌∷◌, Option, Some, None, refl, sym, ap, subst, ◌∙◌, arith}
-use Rattle.std.specs.Prelude.{All, slice_get, sum_by, count_by, find, get_or, filter, fold, length, max, nat_lt, cond}
+use Rattle.std.proofs.Common.{◌≡◌, ℕ, zero, suc, ℤ, pos, ◌+◌, ◌<◌, ◌≤◌, true, false, Bool, List, [], ◌∷◌, Some, None, refl, sym, ap, subst, ◌∙◌, arith}
+use Rattle.std.specs.Prelude.{All, slice_get, sum_by, count_by, find, filter, fold, length, max, nat_lt, cond}
 use Rattle.std.specs.Option.{option_map}
 use Rattle.std.specs.Ordering.{eq_by_cmp}
 use Rattle.std.specs.FinMap as finite
@@ -18,18 +18,17 @@ use Rattle.dl_ir.specs.declared.names.Value.TheVariants as values
 use Rattle.dl_ir.specs.declared.objects.Obj.{Obj}
 use Rattle.dl_ir.specs.CallForms.{IsCallOf, AllFit, IsRootNumber}
 use Rattle.dl_ir.specs.Checked.{IsChecked, IsOperation, HasRoot, IsParamType, IsVarType}
-use Rattle.dl_ir.specs.Heap.{Objects, name_cmp, root, IsHeapOf, IsRootOf, IsHidden, HasFields, HasType, hidden_count}
-use Rattle.dl_ir.specs.References.{refs, refers_to, is_loose, is_shared, first_name}
+use Rattle.dl_ir.specs.Heap.{name_cmp, root, IsHeapOf, IsRootOf, HasFields, HasType, hidden_count}
+use Rattle.dl_ir.specs.References.{refs, refers_to, is_loose, is_shared}
 use Rattle.dl_ir.specs.Typed as typed
 use Rattle.dl_ir.specs.Typed.{HasFieldOf}
-use Rattle.dl_shape.specs.Closed.{IsForestClosed, AllEndInForest}
+use Rattle.dl_shape.specs.Closed.{AllEndInForest}
 use Rattle.dl_shape.specs.Operation.{operated}
 use Rattle.dl_shape.specs.References.{IsForest}
 use Rattle.dl_shape.specs.Replay.{greatest_ticket}
 use Rattle.dl_shape.specs.Settling.{trim, settled, sealed_heap}
 use Rattle.dl_shape.proofs.Order.{trim_end}
 use Rattle.dl_shape.proofs.Sealing.{seal_end}
-use Rattle.dl_instr.specs.Code.{code}
 use Rattle.dl_instr.specs.DropsLaws.{PlainIsCode}
 use Rattle.dl_core.specs.declared.answers.Event.TheVariants as events
 use Rattle.dl_core.specs.declared.answers.Progress.TheVariants as progress
@@ -118,7 +117,7 @@ of_module = record {
     fields name found declared same is_there =
         let first : declared ≡ counter = sym (same_some (ap (λ (o : Obj). slice_get look_module.kinds o.kind) (sym same.1) ∙ is_there)) in
         subst (λ (d : KindDecl). HasFields look_heap d.fields found.fields) (sym first) (subst (λ (o : Obj). HasFields look_heap (record { name = []; ty = Int } ∷ []) o.fields) (sym same.1)
-            (record { one_each = refl; typed = typed_at }))
+        (record { one_each = refl; typed = typed_at }))
 
 -- ---- the module
 

@@ -1,5 +1,5 @@
 -- How far the clock, the pool's version and numbers of places go.
-use Rattle.std.proofs.Common.{◌≡◌, ◌≢◌, ◌⊎◌, inl, inr, ℕ, zero, suc, ◌+◌, ◌-◌, ◌*◌, ◌<◌, ◌≤◌, true, false, List, [], ◌∷◌, length, get_or, refl, sym, ap, subst, ◌∙◌, arith}
+use Rattle.std.proofs.Common.{◌≡◌, ◌≢◌, ◌⊎◌, inl, inr, ℕ, zero, suc, ◌+◌, ◌-◌, ◌*◌, ◌<◌, ◌≤◌, true, false, List, [], ◌∷◌, length, get_or, refl, sym, ap, ◌∙◌, arith}
 use Rattle.std.specs.Prelude.{◌==◌, All, sum_by, nat_lt, if◌then◌else◌}
 use Rattle.std.proofs.lemmas.Bool.{cases_lt}
 use Rattle.std.proofs.lemmas.Bool.Decides.{nat_tests}
@@ -11,10 +11,10 @@ use Rattle.dl_shape.specs.Replay.{greatest_ticket}
 use Rattle.dl_core.specs.declared.stages.Finished.{Finished}
 use Rattle.dl_core.specs.declared.stages.Stage.{Stage}
 use Rattle.dl_core.specs.declared.stages.Stage.TheVariants as stages
-use Rattle.dl_core.specs.Plans.{Plan, IsPlan, IsCaller, size_of, allocs_of}
+use Rattle.dl_core.specs.Plans.{Plan, IsPlan}
 use Rattle.dl_core.specs.Frames.{Frame, IsEntered, idle}
 use Rattle.dl_core.specs.Core.{Account, Core, no_account, frame_of, account_of}
-use Rattle.dl_core.specs.Reached.{Calls, IsReached, calls_of}
+use Rattle.dl_core.specs.Reached.{Calls, calls_of}
 use Rattle.dl_core.specs.Lawful.{one_if_entered, one_if_reserved}
 use Rattle.dl_core.specs.Sound.{Stands, idles, waits, works, HasHistory, in_hand_at}
 use Rattle.dl_core.specs.Laws.{IsKept}

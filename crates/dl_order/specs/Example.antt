@@ -1,5 +1,5 @@
 -- A small run by two callers: what laws ask of a plan and of a state is met by some.
-use Rattle.std.specs.Prelude.{◌≡◌, ◌≢◌, ℕ, pos, true, false, Some, List, [], ◌∷◌}
+use Rattle.std.specs.Prelude.{◌≡◌, pos, true, false, Some, [], ◌∷◌}
 use Rattle.std.specs.FinMap as finite
 use Rattle.dl_ir.specs.declared.calls.Call.{Call}
 use Rattle.dl_ir.specs.declared.modules.Module.{Module}

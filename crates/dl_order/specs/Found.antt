@@ -1,6 +1,6 @@
 -- What is found in each state to which a run comes: what is named is there, who has what another takes, names given once, and how far
 -- numbers go.
-use Rattle.std.specs.Prelude.{◌≡◌, ◌≢◌, ◌+◌, ◌<◌, ◌≤◌, ℕ, true, Option, Some, None, Contains}
+use Rattle.std.specs.Prelude.{◌≡◌, ◌≢◌, ◌+◌, ◌<◌, ◌≤◌, ℕ, true, Some, None, Contains}
 use Rattle.std.specs.FinMap as finite
 use Rattle.dl_ir.specs.declared.calls.Call.{Call}
 use Rattle.dl_ir.specs.declared.names.Name.{Name}
