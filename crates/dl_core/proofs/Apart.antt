@@ -62,7 +62,7 @@ module _ (h : Heap) (tickets : ℕ → ℕ) (c : ℕ) (x : Name) where
 
   link_after : (o o' : Option Obj) → May h tickets c x o o' → map.get h x ≡ o → (ob : Obj) → o' ≡ Some ob → (n : Name) → RefersTo ob n → Linked h c x o n
   link_after o o' (reads m) e ob is n r = old (record { object = ob; there = e ∙ is; refers = r })
-  link_after o o' (sees i m) e ob is n r = old (record { object = ob; there = e ∙ is; refers = r })
+  link_after o o' (sees i source m no_root holder link) e ob is n r = old (record { object = ob; there = e ∙ is; refers = r })
   link_after o o' (writes {object = b} place v m lose may) e ob is n r =
       elim (set_refers n b.fields place v (subst (λ vs. 0 < count_by (refers_to n) vs) (sym (ap (λ (w : Obj). w.fields) (same_some is))) r)) [
         | inl was ↦ old (record { object = b; there = e; refers = was })
@@ -77,7 +77,7 @@ module _ (h : Heap) (tickets : ℕ → ℕ) (c : ℕ) (x : Name) where
 
   pub held_after : (o o' : Option Obj) → May h tickets c x o o' → map.get h x ≡ o → (ob : Obj) → o' ≡ Some ob → (d : ℕ) → ob.mark ≡ Held d → Kept h tickets c x o d
   held_after o o' (reads m') e ob is d m = held (record { object = ob; there = e ∙ is; held = m })
-  held_after o o' (sees i m') e ob is d m = held (record { object = ob; there = e ∙ is; held = m })
+  held_after o o' (sees i source m' no_root holder link) e ob is d m = held (record { object = ob; there = e ∙ is; held = m })
   held_after o o' (writes {object = b} place v m' lose may) e ob is d m = held (record { object = b; there = e; held = ap (λ (w : Obj). w.mark) (same_some is) ∙ m })
   held_after o o' (takes {object = b} q free hid hq l) e ob is d m = taken (held_one (ap (λ (w : Obj). w.mark) (same_some is) ∙ m)) (along (holds hq) l)
   held_after o o' (takes_root {object = b} free root waiting) e ob is d m = rooted (held_one (ap (λ (w : Obj). w.mark) (same_some is) ∙ m)) waiting
@@ -175,7 +175,7 @@ module _ (h : Heap) (tickets : ℕ → ℕ) (own : IsOwn tickets) (a : IsApart h
   -- of the object that c changed
   new_mark : (d : ℕ) → 0 < tickets d → Grows h tickets c x o d x → (p p' : Option Obj) → May h tickets c x p p' → o ≡ p → o' ≡ p' → (ob : Obj) → p' ≡ Some ob → IsAbove tickets (tickets d) ob.mark → ⊥
   new_mark d run g p p' (reads m') is is' ob some up = old_mark d run x g ob (e ∙ is ∙ some) up
-  new_mark d run g p p' (sees i m') is is' ob some up = old_mark d run x g ob (e ∙ is ∙ some) up
+  new_mark d run g p p' (sees i source m' no_root holder link) is is' ob some up = old_mark d run x g ob (e ∙ is ∙ some) up
   new_mark d run g p p' (writes {object = b} place v mine lose may) is is' ob some up = old_mark d run x g b (e ∙ is) (subst (IsAbove tickets (tickets d)) (sym (ap (λ (w : Obj). w.mark) (same_some some))) up)
   new_mark d run (was r) p p' (takes {object = b} q free hid hq l) is is' ob some up = untaken d run (above_held d ob.mark (sym (ap (λ (w : Obj). w.mark) (same_some some))) up) b (e ∙ is) free q hq l (counted.one x b (e ∙ is) free hid) r
   new_mark d run (through t r) p p' (takes {object = b} q free hid hq l) is is' ob some up = let lt = above_held d ob.mark (sym (ap (λ (w : Obj). w.mark) (same_some some))) up in omega arith

@@ -24,7 +24,7 @@ pub data Stands (h : Heap) (tickets : ℕ → ℕ) (c : ℕ) (n : Name) (o o' : 
 module _ (h : Heap) (tickets : ℕ → ℕ) where
   pub stands : (c : ℕ) (n : Name) (o o' : Option Obj) → May h tickets c n o o' → Stands h tickets c n o o'
   stands c n o o' (reads {object = b} m) = mine b refl m
-  stands c n o o' (sees {object = b} i m) = shut b i refl m refl
+  stands c n o o' (sees {object = b} i source m no_root holder link) = shut b i refl m refl
   stands c n o o' (writes {object = b} place v m lose may) = mine b refl m
   stands c n o o' (takes {object = b} q m hid hq l) = unheld b q refl m hid hq l
   stands c n o o' (takes_root {object = b} m root waiting) = exposed b refl m root waiting

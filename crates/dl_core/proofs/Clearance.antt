@@ -3,7 +3,6 @@ use Rattle.std.proofs.Common.{◌≡◌, ◌≢◌, ℕ, Option, Some, refl}
 use Rattle.std.specs.FinMap as finite
 use Rattle.dl_ir.specs.declared.names.Name.{Name}
 use Rattle.dl_core.specs.declared.objects.Object.{Object}
-use Rattle.dl_core.specs.Codes.{HasGoodCode}
 use Rattle.dl_core.specs.Plans.{Plan, IsPlan}
 use Rattle.dl_core.specs.Frames.{Frame, IsEntered}
 use Rattle.dl_core.specs.declared.dues.Due.{Due}
@@ -38,12 +37,12 @@ aimed (Seals n) name e = at_at e
 aimed (Makes n kind) name e = at_at e
 aimed (Finishes end) name e = absurd (cc)
 
-module _ (plan : Plan) (core : Core) (calls : Calls) (is : IsPlan plan) (lawful : IsLawful plan core calls) (sound : IsSound plan core calls) (good : HasGoodCode plan) where
+module _ (plan : Plan) (core : Core) (calls : Calls) (is : IsPlan plan) (lawful : IsLawful plan core calls) (sound : IsSound plan core calls) where
   -- a step by the rules at an object is a row
   pub moved_row : (caller : ℕ) (name : Name) (found : Option Object) (frame : Frame) → Acts (rules_of plan) core.world caller (Puts name found) frame
       → May core.world.heap (ticket_in core.world) caller name (finite.get core.world.heap name) found
   moved_row caller name found frame acts =
-      events_may plan core calls caller is lawful sound good name (aimed (due plan (frame_of core.world caller)) name acts.0) (frame, found) acts.1
+      events_may plan core calls caller is lawful sound name (aimed (due plan (frame_of core.world caller)) name acts.0) (frame, found) acts.1
 
   pub touches_clear : (i j : ℕ) → i ≢ j → IsEntered (frame_of core.world j) → (s t : Touch) (f g : Frame) → Acts (rules_of plan) core.world i s f → Acts (rules_of plan) core.world j t g
       → Clear (rules_of plan) core.world.heap s t

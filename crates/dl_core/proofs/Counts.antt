@@ -70,7 +70,7 @@ module _ (h : Heap) (tickets : ℕ → ℕ) (c : ℕ) (x : Name) where
   -- the references to an object that c does not hold, and that is not sealed, stay as many
   pub refs-kept : (o o' : Option Obj) → May h tickets c x o o' → map.get h x ≡ o → (n : Name) (b : Obj) → map.get h n ≡ Some b → b.mark ≢ Held c → ((i : ℕ) → b.mark ≢ Sealed i) → refs (put_at h x o') n ≡ refs h n
   refs-kept o o' (reads m') e n b is m s = same_refs n o o' e refl
-  refs-kept o o' (sees i m') e n b is m s = same_refs n o o' e refl
+  refs-kept o o' (sees i source m' no_root holder link) e n b is m s = same_refs n o o' e refl
   refs-kept o o' (writes {object = ob} place v m' lose may) e n b is m s = same_refs n o o' e (sym (refs_in_set n ob.fields place v (not_written n b is m v may) (not_lost n b is m s _ lose)))
   refs-kept o o' (takes q m' hid hq l) e n b is m s = same_refs n o o' e refl
   refs-kept o o' (takes_root m' root waiting) e n b is m s = same_refs n o o' e refl
@@ -82,7 +82,7 @@ module _ (h : Heap) (tickets : ℕ → ℕ) (c : ℕ) (x : Name) where
   -- the object that c changed, if it is free now
   free_now : (o o' : Option Obj) → May h tickets c x o o' → map.get h x ≡ o → IsCounted h → (b : Obj) → o' ≡ Some b → b.mark ≡ Free → IsHidden x → refs (put_at h x o') x ≡ 1
   free_now o o' (reads m') e k b is f hid = absurd (free_held (sym f ∙ ap (λ (w : Obj). w.mark) (same_some (sym is)) ∙ m'))
-  free_now o o' (sees i m') e k b is f hid = same_refs x o o' e refl ∙ k.one x b (e ∙ is) f hid
+  free_now o o' (sees i source m' no_root holder link) e k b is f hid = same_refs x o o' e refl ∙ k.one x b (e ∙ is) f hid
   free_now o o' (writes place v m' lose may) e k b is f hid = absurd (free_held (sym f ∙ ap (λ (w : Obj). w.mark) (same_some (sym is)) ∙ m'))
   free_now o o' (takes q m' hid' hq l) e k b is f hid = absurd (free_held (sym f ∙ ap (λ (w : Obj). w.mark) (same_some (sym is))))
   free_now o o' (takes_root m' root waiting) e k b is f hid = absurd (free_held (sym f ∙ ap (λ (w : Obj). w.mark) (same_some (sym is))))
@@ -110,7 +110,7 @@ module _ (h : Heap) (tickets : ℕ → ℕ) (c : ℕ) (x : Name) where
   -- no field refers to a root after the change
   roots_kept : (o o' : Option Obj) → May h tickets c x o o' → map.get h x ≡ o → (n : Name) → n.ticket ≡ 0 → refs h n ≡ 0 → refs (put_at h x o') n ≡ 0
   roots_kept o o' (reads m') e n z k = same_refs n o o' e refl ∙ k
-  roots_kept o o' (sees i m') e n z k = same_refs n o o' e refl ∙ k
+  roots_kept o o' (sees i source m' no_root holder link) e n z k = same_refs n o o' e refl ∙ k
   roots_kept o o' (writes {object = ob} place v m' lose may) e n z k =
       let less = set_less n ob.fields place v (not_root n z v may) in
       omega (arith, total-put_at names (refs_in n) h x o', ap (weight (refs_in n)) e, less, k)

@@ -15,7 +15,6 @@ use Rattle.dl_ir.specs.Heap.{IsHidden, root}
 use Rattle.dl_core.specs.declared.objects.Mark.TheVariants.{Free}
 use Rattle.dl_core.specs.declared.objects.Object.{Object}
 use Rattle.dl_core.specs.declared.stages.Stage.TheVariants as stages
-use Rattle.dl_core.specs.Codes.{HasGoodCode}
 use Rattle.dl_core.specs.Heaps.{Heap, IsHeld}
 use Rattle.dl_core.specs.Plans.{Plan, IsPlan, op_of, roots_of, roots_among, put_root, put_in}
 use Rattle.dl_core.specs.Frames.{Frame}
@@ -32,7 +31,7 @@ use Rattle.dl_core.proofs.Rows.{target_held, target_value, link_hidden, field_li
 use Rattle.dl_core.proofs.Dominated.{dominated}
 use Rattle.dl_core.proofs.Why as why
 use Rattle.dl_core.proofs.Why.{Why}
-use Rattle.dl_core.proofs.Events.{works_running, works_loose, local_held, cleared, held_cleared, cleared_hand, hand_before}
+use Rattle.dl_core.proofs.Events.{works_ended, works_running, works_loose, local_held, cleared, held_cleared, cleared_hand, hand_before}
 
 -- a free hidden object to which a field of a held object refers is dominated
 pub take_dominated : (heap : Heap) → IsCounted heap → (caller : ℕ) (from name : Name) (object : Object) → finite.get heap name ≡ Some object → object.mark ≡ Free → IsHidden name → IsHeld heap caller from → Links heap from name
@@ -104,7 +103,7 @@ earlier_less (k ∷ ks) r zero (suc j) a b lt p q = let same : k ≡ a = same_so
 earlier_less (k ∷ ks) r (suc i) zero a b lt p q = absurd (omega arith)
 earlier_less (k ∷ ks) r (suc i) (suc j) a b lt p q = earlier_less ks r.1 i j a b (omega arith) p q
 
-module _ (plan : Plan) (core : Core) (calls : Calls) (caller : ℕ) (is : IsPlan plan) (lawful : IsLawful plan core calls) (sound : IsSound plan core calls) (good : HasGoodCode plan) where
+module _ (plan : Plan) (core : Core) (calls : Calls) (caller : ℕ) (is : IsPlan plan) (lawful : IsLawful plan core calls) (sound : IsSound plan core calls) where
   abbrev heap : Heap
   heap = core.world.heap
 
@@ -135,26 +134,26 @@ module _ (plan : Plan) (core : Core) (calls : Calls) (caller : ℕ) (is : IsPlan
   by_why d (why.reserves tidy stage few) = tt
   by_why d (why.takes_root number tidy called next) = (λ entered. omega (arith, entered, called_ticket called), root_above number called next)
   by_why d (why.enters tidy stage next) = tt
-  by_why d (why.reads_code local field n at to) = local_held plan core calls caller is lawful sound good (works_running plan core calls caller is lawful sound good at.running) local n to
+  by_why d (why.reads_code local field n at to) = local_held plan core calls caller is lawful sound (works_running plan core calls caller is lawful sound at.running) local n to
   by_why d (why.reads_first field n booked given at hand) =
-      held_cleared plan core calls caller is lawful sound good n booked (cleared plan core calls caller is lawful sound good (works_loose plan core calls caller is lawful sound good n given.rest given.first) n booked given)
-  by_why d (why.writes_code local field content n at to) = local_held plan core calls caller is lawful sound good (works_running plan core calls caller is lawful sound good at.running) local n to
+      held_cleared plan core calls caller is lawful sound n booked (cleared plan core calls caller is lawful sound (works_loose plan core calls caller is lawful sound n given.rest given.first) n booked given)
+  by_why d (why.writes_code local field content n at to) = local_held plan core calls caller is lawful sound (works_running plan core calls caller is lawful sound at.running) local n to
   by_why d (why.writes_first field n target value booked given at hand to may) =
-      held_cleared plan core calls caller is lawful sound good n booked (cleared plan core calls caller is lawful sound good (works_loose plan core calls caller is lawful sound good n given.rest given.first) n booked given)
+      held_cleared plan core calls caller is lawful sound n booked (cleared plan core calls caller is lawful sound (works_loose plan core calls caller is lawful sound n given.rest given.first) n booked given)
   by_why d (why.takes_code n at to other) =
-      let w = works_running plan core calls caller is lawful sound good at.running in
-      let before = hand_before plan core calls caller is lawful sound good w _ at in
+      let w = works_running plan core calls caller is lawful sound at.running in
+      let before = hand_before plan core calls caller is lawful sound w _ at in
       let got = before.read in
       take_path got.name n (record { object = got.object; there = got.there; held = got.held })
       (field_links heap got.name n got.object before.field got.there (same_some (sym got.in_hand ∙ target_held frame.hand n to)))
   by_why d (why.takes_first field n target value booked given at hand to other) =
-      let w = works_loose plan core calls caller is lawful sound good n given.rest given.first in
-      let c = cleared plan core calls caller is lawful sound good w n booked given in
-      take_path n target (held_cleared plan core calls caller is lawful sound good n booked c)
-      (field_links heap n target c.object field c.there (sym (cleared_hand plan core calls caller is lawful sound good n booked c value field hand at) ∙ target_value value target to))
-  by_why d (why.lets_go n rest first what) = (works_loose plan core calls caller is lawful sound good n rest first).1
-  by_why d (why.gives_up n booked given none) = (works_loose plan core calls caller is lawful sound good n given.rest given.first).1
-  by_why d (why.seals end entry rest tidy ended null entries) = tt
+      let w = works_loose plan core calls caller is lawful sound n given.rest given.first in
+      let c = cleared plan core calls caller is lawful sound w n booked given in
+      take_path n target (held_cleared plan core calls caller is lawful sound n booked c)
+      (field_links heap n target c.object field c.there (sym (cleared_hand plan core calls caller is lawful sound n booked c value field hand at) ∙ target_value value target to))
+  by_why d (why.lets_go n rest first what) = (works_loose plan core calls caller is lawful sound n rest first).1
+  by_why d (why.gives_up n booked given none) = (works_loose plan core calls caller is lawful sound n given.rest given.first).1
+  by_why d (why.seals end entry rest tidy ended null entries) = (works_ended plan core calls caller is lawful sound end ended).1
   by_why d (why.makes kind at few) = tt
   by_why d (why.finishes end tidy stage null none) = tt
 

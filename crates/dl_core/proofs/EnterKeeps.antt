@@ -23,7 +23,7 @@ use Rattle.dl_core.specs.declared.stages.Finished.{Finished}
 use Rattle.dl_core.specs.declared.stages.Stage.{Stage}
 use Rattle.dl_core.specs.declared.stages.Stage.TheVariants as stages
 use Rattle.dl_core.specs.Codes as codes
-use Rattle.dl_core.specs.Codes.{IsGoodCode, IsFilledFor, HasGoodCode}
+use Rattle.dl_core.specs.Codes.{IsGoodCode, IsFilledFor}
 use Rattle.dl_core.specs.Heaps.{Heap, plain, IsHeld}
 use Rattle.dl_core.specs.Plans.{Plan, IsPlan, IsCaller, source_of, op_of, steps_of, allocs_of, fuel_of, locals_of, roots_of, roots_among}
 use Rattle.dl_core.specs.Frames.{Frame, IsEntered, idle}
@@ -37,6 +37,7 @@ use Rattle.dl_core.specs.Changes.{IsApart}
 use Rattle.dl_core.specs.Lawful.{IsLawful, for_a_local, AddUp, one_if_entered}
 use Rattle.dl_core.specs.Laws.{IsKept}
 use Rattle.dl_core.specs.Sound.{IsSound, HasCall, Stands, idles, waits, works, HandAt, HasTickets, HasLog, tickets_of, ticket_in_hand, move_in_hand, callers_of, in_hand_at}
+use Rattle.dl_core.proofs.GoodCode.{plans_have_good_code}
 use Rattle.dl_core.proofs.Names.{same_number, same_some, no_some, bools}
 use Rattle.dl_core.proofs.Begins.{local_root, root_local, locals_fit, one_local_each}
 use Rattle.dl_core.proofs.Enter.{entered-IsApart}
@@ -97,7 +98,7 @@ in_hand_busy frame index stages.Called busy = refl
 in_hand_busy frame index stages.Running busy = refl
 in_hand_busy frame index (stages.Ended end) busy = refl
 
-module _ (plan : Plan) (core : Core) (calls : Calls) (caller : ℕ) (is : IsPlan plan) (lawful : IsLawful plan core calls) (sound : IsSound plan core calls) (good : HasGoodCode plan) where
+module _ (plan : Plan) (core : Core) (calls : Calls) (caller : ℕ) (is : IsPlan plan) (lawful : IsLawful plan core calls) (sound : IsSound plan core calls) where
   abbrev heap : Heap
   heap = core.world.heap
 
@@ -111,10 +112,10 @@ module _ (plan : Plan) (core : Core) (calls : Calls) (caller : ℕ) (is : IsPlan
       by : Stands plan heap calls d (frame_of core.world d) → (frame_of core.world d).ticket ≤ core.clock
       by (idles e) = let z : (frame_of core.world d).ticket ≡ 0 = ap (λ (f : Frame). f.ticket) e in omega (arith, z)
       by (waits call w) = let z : (frame_of core.world d).ticket ≡ 0 = ap (λ (f : Frame). f.ticket) w.is in omega (arith, z)
-      by (works call entered w) = (below_clock plan core calls sound d (busy_caller plan core calls sound d (not_idle plan core calls d is lawful sound good (frame_of core.world d).stage w.stage)) entered).1
+      by (works call entered w) = (below_clock plan core calls sound d (busy_caller plan core calls sound d (not_idle plan core calls d is lawful sound (frame_of core.world d).stage w.stage)) entered).1
 
   -- places are reserved where no reservation is due
-  pub has_places : (w : WaitsNow plan core calls caller is lawful sound good) → frame.loose ≡ [] → frame.stage ≡ stages.Called → ((need : ℕ) → due plan frame ≢ Reserves need) → frame.spares ≡ w.call.op.allocs
+  pub has_places : (w : WaitsNow plan core calls caller is lawful sound) → frame.loose ≡ [] → frame.stage ≡ stages.Called → ((need : ℕ) → due plan frame ≢ Reserves need) → frame.spares ≡ w.call.op.allocs
   has_places w tidy called not_reserves = by w.waiting.places
     where
       due_is : due plan frame ≡ (if nat_lt frame.spares (allocs_of plan frame.call) then Reserves (allocs_of plan frame.call) else next_root (slice_get (roots_of plan frame.call) frame.taken))
@@ -138,8 +139,8 @@ module _ (plan : Plan) (core : Core) (calls : Calls) (caller : ℕ) (is : IsPlan
     abbrev next : Frame
     next = entered plan t frame
 
-    w : WaitsNow plan core calls caller is lawful sound good
-    w = waits_called plan core calls caller is lawful sound good called
+    w : WaitsNow plan core calls caller is lawful sound
+    w = waits_called plan core calls caller is lawful sound called
 
     abbrev op : OpDecl
     op = w.call.op
@@ -193,7 +194,7 @@ module _ (plan : Plan) (core : Core) (calls : Calls) (caller : ℕ) (is : IsPlan
     good_now : IsGoodCode (source_of plan) (types_of op) (steps_of plan frame.call)
     good_now =
         let within : frame.call.op < length plan.code.ops = omega (arith, slice_get_within (source_of plan).ops frame.call.op op w.call.declared, is.code.one_each) in
-        good frame.call.op op (steps_of plan frame.call) w.call.declared (slice_get-get_or plan.code.ops frame.call.op [] within)
+        plans_have_good_code plan is frame.call.op op (steps_of plan frame.call) w.call.declared (slice_get-get_or plan.code.ops frame.call.op [] within)
 
     -- the first step uses nothing of the hand
     first_open : (s : Step) → slice_get (steps_of plan frame.call) 0 ≡ Some s → is_use s ≡ false
@@ -265,7 +266,7 @@ module _ (plan : Plan) (core : Core) (calls : Calls) (caller : ℕ) (is : IsPlan
     has_entered = omega (arith, new_ticket)
 
     busy : next.stage ≢ stages.Idle
-    busy = not_idle plan core calls caller is lawful sound good next.stage going.works.stage
+    busy = not_idle plan core calls caller is lawful sound next.stage going.works.stage
 
     call : HasCall plan calls caller next
     call = record {

@@ -30,7 +30,7 @@ use Rattle.dl_core.specs.declared.objects.Mark.TheVariants.{Free, Held, Sealed}
 use Rattle.dl_core.specs.declared.objects.Object.{Object}
 use Rattle.dl_core.specs.declared.stages.Booked.{Booked}
 use Rattle.dl_core.specs.declared.stages.Stage.TheVariants as stages
-use Rattle.dl_core.specs.Codes.{IsTypedStep, read, want, set, copy, drop, make, write, eval, test, give, FitsContent, a_number, a_local, a_null, IsGoodCode, HasGoodCode}
+use Rattle.dl_core.specs.Codes.{IsTypedStep, read, want, set, copy, drop, make, write, eval, test, give, FitsContent, a_number, a_local, a_null, IsGoodCode}
 use Rattle.dl_core.specs.Heaps.{Heap, refs, field_of, plain, IsHeld, IsSealed}
 use Rattle.dl_core.specs.Plans.{Plan, IsPlan, source_of, steps_of, reference_from}
 use Rattle.dl_core.specs.Frames.{Frame, IsEntered, target_at, target_in_hand, value_in_hand, has_booked}
@@ -44,6 +44,7 @@ use Rattle.dl_core.specs.Reach.{Links, ticket_in}
 use Rattle.dl_core.specs.Changes.{May, reads, sees, writes, takes, takes_root, lets_go, seals, gives_up, makes, MayLose, MayWrite}
 use Rattle.dl_core.specs.Lawful.{IsLawful, HasReason, for_a_local, for_fields, for_the_list, for_the_hand}
 use Rattle.dl_core.specs.Sound.{IsSound, HasCall, IsWorking, Stands, idles, waits, works, HandAt, HandWhile, HandBefore, HasCleared, clears, lets_go as lets_go_first, IsClearing, IsFieldInHand, HoldsHand, IsLoose}
+use Rattle.dl_core.proofs.GoodCode.{plans_have_good_code}
 use Rattle.dl_core.proofs.Maps.{AreEntries, entries_are, names}
 use Rattle.dl_core.proofs.Names.{same_some, no_some}
 use Rattle.dl_core.proofs.Rows.{target_held, target_value, none_refers, link_hidden, field_links, first_of_all}
@@ -116,7 +117,7 @@ pub made_null : (kind : ℕ) (declared : Option KindDecl) (i : ℕ) → target_i
 made_null kind None i = refl
 made_null kind (Some declared) i = blank_null declared.fields i
 
-module _ (plan : Plan) (core : Core) (calls : Calls) (caller : ℕ) (is : IsPlan plan) (lawful : IsLawful plan core calls) (sound : IsSound plan core calls) (good : HasGoodCode plan) where
+module _ (plan : Plan) (core : Core) (calls : Calls) (caller : ℕ) (is : IsPlan plan) (lawful : IsLawful plan core calls) (sound : IsSound plan core calls) where
   abbrev pub heap : Heap
   heap = core.world.heap
 
@@ -233,7 +234,7 @@ module _ (plan : Plan) (core : Core) (calls : Calls) (caller : ℕ) (is : IsPlan
           row_of name (Some object) (Some (record object { mark = Held caller })) outcome there (ap (λ (o : Acted). o.1) (sym (same_some e)))
           (takes from m (link_hidden heap lawful.free_refs from name link) held link)
       by_mark object there (Held other) m e = absurd (no_take e)
-      by_mark object there (Sealed ticket) m e = row_of name (Some object) (Some object) outcome there (ap (λ (o : Acted). o.1) (sym (same_some e))) (sees ticket m)
+      by_mark object there (Sealed ticket) m e = row_of name (Some object) (Some object) outcome there (ap (λ (o : Acted). o.1) (sym (same_some e))) (sees ticket from m (link_hidden heap lawful.free_refs from name link) held link)
 
       by : (found : Option Object) → finite.get heap name ≡ found → act plan caller frame (Takes name) found ≡ Some outcome → Row name (finite.get heap name) outcome.1
       by None p e = absurd (no_take e)
@@ -282,7 +283,7 @@ module _ (plan : Plan) (core : Core) (calls : Calls) (caller : ℕ) (is : IsPlan
   pub code_now : (w : Works) → IsGoodCode (source_of plan) (types_of w.0.op) (steps_of plan frame.call)
   code_now w =
       let within : frame.call.op < length plan.code.ops = omega (arith, slice_get_within (source_of plan).ops frame.call.op w.0.op w.0.declared, is.code.one_each) in
-      good frame.call.op w.0.op (steps_of plan frame.call) w.0.declared (slice_get-get_or plan.code.ops frame.call.op [] within)
+      plans_have_good_code plan is frame.call.op w.0.op (steps_of plan frame.call) w.0.declared (slice_get-get_or plan.code.ops frame.call.op [] within)
 
   -- ---- writes of the code
 

@@ -24,7 +24,6 @@ use Rattle.dl_core.specs.declared.objects.Mark.TheVariants.{Free, Held, Sealed}
 use Rattle.dl_core.specs.declared.stages.Finished.{Finished}
 use Rattle.dl_core.specs.declared.stages.Versions.{Versions}
 use Rattle.dl_core.specs.declared.stages.Stage.TheVariants as stages
-use Rattle.dl_core.specs.Codes.{HasGoodCode}
 use Rattle.dl_core.specs.Heaps.{Heap, IsHeld}
 use Rattle.dl_core.specs.Plans.{Plan, IsPlan, IsCaller, source_of, allocs_of}
 use Rattle.dl_core.specs.Frames.{Frame, IsEntered}
@@ -54,7 +53,7 @@ entries_push c (x ∷ fs) [] f v e = absurd (omega (arith, e))
 entries_push c (x ∷ fs) (y ∷ vs) f v e = ap (λ es. entry_of c (x, y) ∷ es) (entries_push c fs vs f v (omega (arith, e)))
 
 -- where no entry has an index, no finished operation has
-not_counted : (c n : ℕ) (fs : List Finished) (vs : List Versions) → length fs ≡ length vs → runs_of c n (map (entry_of c) (zip fs vs)) ≡ 0 → All (λ (kept : Finished). kept.index ≢ n) fs
+pub not_counted : (c n : ℕ) (fs : List Finished) (vs : List Versions) → length fs ≡ length vs → runs_of c n (map (entry_of c) (zip fs vs)) ≡ 0 → All (λ (kept : Finished). kept.index ≢ n) fs
 not_counted c n [] vs e z = λ k d lt. absurd (omega (arith, lt))
 not_counted c n (f ∷ fs) [] e z = absurd (omega (arith, e))
 not_counted c n (f ∷ fs) (v ∷ vs) e z = by (sum_by-cons (λ (x : Entry). cond ((x.caller == c) && (x.index == n)) 1 0) (entry_of c (f, v)) (map (entry_of c) (zip fs vs))) (not_counted c n fs vs (omega (arith, e)))
@@ -95,7 +94,7 @@ leave_apart heap tickets tickets' c left same apart = record {
     ]
     by t (Sealed k) up = up
 
-module _ (plan : Plan) (core : Core) (calls : Calls) (caller : ℕ) (is : IsPlan plan) (lawful : IsLawful plan core calls) (sound : IsSound plan core calls) (good : HasGoodCode plan) (end : End) (w : Works plan core calls caller is lawful sound good)
+module _ (plan : Plan) (core : Core) (calls : Calls) (caller : ℕ) (is : IsPlan plan) (lawful : IsLawful plan core calls) (sound : IsSound plan core calls) (end : End) (w : Works plan core calls caller is lawful sound)
     (empty : finite.entries (frame_of core.world caller).book ≡ []) where
   abbrev heap : Heap
   heap = core.world.heap
@@ -125,7 +124,7 @@ module _ (plan : Plan) (core : Core) (calls : Calls) (caller : ℕ) (is : IsPlan
   e = entry_of caller (finish_of end frame, made)
 
   pub one : IsCaller plan caller
-  one = busy_caller plan core calls sound caller (not_idle plan core calls caller is lawful sound good frame.stage w.2.stage)
+  one = busy_caller plan core calls sound caller (not_idle plan core calls caller is lawful sound frame.stage w.2.stage)
 
   abbrev world' : Shared
   world' = world plan core calls caller lawful sound one next

@@ -7,7 +7,6 @@ use Rattle.dl_ir.specs.Heap.{root}
 use Rattle.dl_core.specs.declared.objects.Mark.{Mark}
 use Rattle.dl_core.specs.declared.objects.Mark.TheVariants.{Free, Held, Sealed}
 use Rattle.dl_core.specs.declared.objects.Object.{Object}
-use Rattle.dl_core.specs.Codes.{HasGoodCode}
 use Rattle.dl_core.specs.Heaps.{Heap, put_at}
 use Rattle.dl_core.specs.Plans.{Plan, IsPlan}
 use Rattle.dl_core.specs.Frames.{Frame, IsEntered}
@@ -30,7 +29,7 @@ use Rattle.dl_core.proofs.Why.{Why}
 use Rattle.dl_core.proofs.Events.{works_running, works_loose, works_ended, events_may}
 use Rattle.dl_core.proofs.Dominates.{called_ticket}
 
-module _ (plan : Plan) (core : Core) (calls : Calls) (caller : ℕ) (is : IsPlan plan) (lawful : IsLawful plan core calls) (sound : IsSound plan core calls) (good : HasGoodCode plan) where
+module _ (plan : Plan) (core : Core) (calls : Calls) (caller : ℕ) (is : IsPlan plan) (lawful : IsLawful plan core calls) (sound : IsSound plan core calls) where
   abbrev heap : Heap
   heap = core.world.heap
 
@@ -45,18 +44,18 @@ module _ (plan : Plan) (core : Core) (calls : Calls) (caller : ℕ) (is : IsPlan
   toucher : (d : Due) → Why plan frame d → (name : Name) → aim d ≡ Some name → Toucher d
   toucher d why.idles name e = absurd (no_some e)
   toucher d (why.reserves tidy stage few) name e = absurd (no_some e)
-  toucher d (why.takes_root number tidy called next) name e = takes_a_root number refl (called_ticket plan core calls caller is lawful sound good called)
+  toucher d (why.takes_root number tidy called next) name e = takes_a_root number refl (called_ticket plan core calls caller is lawful sound called)
   toucher d (why.enters tidy stage next) name e = absurd (no_some e)
-  toucher d (why.reads_code local field n at to) name e = has_entered (works_running plan core calls caller is lawful sound good at.running).1
-  toucher d (why.reads_first field n booked given at hand) name e = has_entered (works_loose plan core calls caller is lawful sound good n given.rest given.first).1
-  toucher d (why.writes_code local field content n at to) name e = has_entered (works_running plan core calls caller is lawful sound good at.running).1
-  toucher d (why.writes_first field n target value booked given at hand to may) name e = has_entered (works_loose plan core calls caller is lawful sound good n given.rest given.first).1
-  toucher d (why.takes_code n at to other) name e = has_entered (works_running plan core calls caller is lawful sound good at.running).1
-  toucher d (why.takes_first field n target value booked given at hand to other) name e = has_entered (works_loose plan core calls caller is lawful sound good n given.rest given.first).1
-  toucher d (why.lets_go n rest first what) name e = has_entered (works_loose plan core calls caller is lawful sound good n rest first).1
-  toucher d (why.gives_up n booked given none) name e = has_entered (works_loose plan core calls caller is lawful sound good n given.rest given.first).1
-  toucher d (why.seals end entry rest tidy ended null entries) name e = has_entered (works_ended plan core calls caller is lawful sound good end ended).1
-  toucher d (why.makes kind at few) name e = has_entered (works_running plan core calls caller is lawful sound good at.running).1
+  toucher d (why.reads_code local field n at to) name e = has_entered (works_running plan core calls caller is lawful sound at.running).1
+  toucher d (why.reads_first field n booked given at hand) name e = has_entered (works_loose plan core calls caller is lawful sound n given.rest given.first).1
+  toucher d (why.writes_code local field content n at to) name e = has_entered (works_running plan core calls caller is lawful sound at.running).1
+  toucher d (why.writes_first field n target value booked given at hand to may) name e = has_entered (works_loose plan core calls caller is lawful sound n given.rest given.first).1
+  toucher d (why.takes_code n at to other) name e = has_entered (works_running plan core calls caller is lawful sound at.running).1
+  toucher d (why.takes_first field n target value booked given at hand to other) name e = has_entered (works_loose plan core calls caller is lawful sound n given.rest given.first).1
+  toucher d (why.lets_go n rest first what) name e = has_entered (works_loose plan core calls caller is lawful sound n rest first).1
+  toucher d (why.gives_up n booked given none) name e = has_entered (works_loose plan core calls caller is lawful sound n given.rest given.first).1
+  toucher d (why.seals end entry rest tidy ended null entries) name e = has_entered (works_ended plan core calls caller is lawful sound end ended).1
+  toucher d (why.makes kind at few) name e = has_entered (works_running plan core calls caller is lawful sound at.running).1
   toucher d (why.finishes end tidy stage null none) name e = absurd (no_some e)
 
   -- a root that is taken
@@ -77,7 +76,7 @@ module _ (plan : Plan) (core : Core) (calls : Calls) (caller : ℕ) (is : IsPlan
   module _ (name : Name) (at : aim (due plan frame) ≡ Some name) (outcome : Acted) (acts : act plan caller frame (due plan frame) (finite.get heap name) ≡ Some outcome) where
     -- after the event each free hidden object has one field that refers to it, and no field refers to a root
     pub counted_kept : IsCounted (put_at heap name outcome.1)
-    counted_kept = IsCounted-kept heap (ticket_in core.world) caller name (finite.get heap name) outcome.1 (events_may plan core calls caller is lawful sound good name at outcome acts) refl lawful.free_refs
+    counted_kept = IsCounted-kept heap (ticket_in core.world) caller name (finite.get heap name) outcome.1 (events_may plan core calls caller is lawful sound name at outcome acts) refl lawful.free_refs
 
     -- after the event nothing that a younger operation holds or sealed is in reach of an older one
     pub apart_kept : IsApart (put_at heap name outcome.1) (ticket_in core.world)
@@ -86,7 +85,7 @@ module _ (plan : Plan) (core : Core) (calls : Calls) (caller : ℕ) (is : IsPlan
         by : Toucher (due plan frame) → IsApart (put_at heap name outcome.1) (ticket_in core.world)
         by (has_entered entered) =
             IsApart-kept heap (ticket_in core.world) sound.tickets.own lawful.older_reach lawful.free_refs caller entered name (finite.get heap name) outcome.1
-            (events_may plan core calls caller is lawful sound good name at outcome acts) refl
+            (events_may plan core calls caller is lawful sound name at outcome acts) refl
         by (takes_a_root number d waits) =
             let same : root number ≡ name = same_some (ap aim (sym d) ∙ at) in
             subst (λ n. act plan caller frame (TakesRoot number) (finite.get heap n) ≡ Some outcome → IsApart (put_at heap n outcome.1) (ticket_in core.world)) same

@@ -3,7 +3,6 @@ pub mod Names
 pub mod GoingOn
 pub mod Asking
 pub mod Diamond
-pub mod Runs
 pub mod Counts
 pub mod Apart
 pub mod Clear
@@ -36,10 +35,6 @@ pub mod EndPhase
 pub mod LoneFinds
 pub mod LoneRun
 pub mod LoneRunsEnd
-pub mod LoneEntered
-pub mod LoneKept
-pub mod LoneOver
-pub mod RestEnters
 pub mod PlainCode
 pub mod GoodCode
 pub mod Course
@@ -65,4 +60,3 @@ pub mod StepsKeep
 pub mod FreshSound
 pub mod BeginKeeps
 pub mod LawfulAlways
-pub mod LoneAlways

@@ -14,7 +14,6 @@ use Rattle.dl_core.specs.declared.objects.Mark.{Mark}
 use Rattle.dl_core.specs.declared.objects.Mark.TheVariants.{Free, Held, Sealed}
 use Rattle.dl_core.specs.declared.objects.Object.{Object}
 use Rattle.dl_core.specs.declared.stages.Stage.TheVariants as stages
-use Rattle.dl_core.specs.Codes.{HasGoodCode}
 use Rattle.dl_core.specs.Heaps.{Heap, refs, plain, plain_object, IsHeld}
 use Rattle.dl_core.specs.Plans.{Plan, IsPlan, source_of}
 use Rattle.dl_core.specs.Frames.{Frame, has_booked}
@@ -39,7 +38,7 @@ either : (a b : Bool) → (a || b) ≡ false → a ≡ false
 either true b e = e
 either false b e = refl
 
-module _ (plan : Plan) (core : Core) (calls : Calls) (caller : ℕ) (is : IsPlan plan) (lawful : IsLawful plan core calls) (sound : IsSound plan core calls) (good : HasGoodCode plan)
+module _ (plan : Plan) (core : Core) (calls : Calls) (caller : ℕ) (is : IsPlan plan) (lawful : IsLawful plan core calls) (sound : IsSound plan core calls)
     (alone : (other : ℕ) → other ≢ caller → ticket_in core.world other ≡ 0) where
   abbrev heap : Heap
   heap = core.world.heap
@@ -81,11 +80,11 @@ module _ (plan : Plan) (core : Core) (calls : Calls) (caller : ℕ) (is : IsPlan
   -- when the operation has ended and no local refers, several fields refer to what is held
   pub several_refer : (end : End) → frame.stage ≡ stages.Ended end → frame.loose ≡ [] → first_referring 0 frame.locals ≡ None → (name : Name) → IsHeld heap caller name → IsHidden name × (1 < refs heap name)
   several_refer end ended tidy null name held =
-      let w = works_ended plan core calls caller is lawful sound good end ended in
+      let w = works_ended plan core calls caller is lawful sound end ended in
       let several = by w (lawful.held_why caller name w.1 held) in
       (hidden several name.ticket refl, several)
     where
-      by : Works plan core calls caller is lawful sound good → HasReason heap frame name → 1 < refs heap name
+      by : Works plan core calls caller is lawful sound → HasReason heap frame name → 1 < refs heap name
       by w (for_a_local some) = absurd (omega (arith, some, none_refers name frame.locals (all_null 0 frame.locals null)))
       by w (for_fields several) = several
       by w (for_the_list has) = absurd (let none : length frame.loose ≡ 0 = ap length tidy in omega (arith, has.1, none))
@@ -102,31 +101,31 @@ module _ (plan : Plan) (core : Core) (calls : Calls) (caller : ℕ) (is : IsPlan
   by_why d (why.reserves tidy stage few) = tt
   by_why d (why.takes_root number tidy called next) = tt
   by_why d (why.enters tidy stage next) = tt
-  by_why d (why.reads_code local field n at to) = local_held plan core calls caller is lawful sound good (works_running plan core calls caller is lawful sound good at.running) local n to
+  by_why d (why.reads_code local field n at to) = local_held plan core calls caller is lawful sound (works_running plan core calls caller is lawful sound at.running) local n to
   by_why d (why.reads_first field n booked given at hand) =
-      held_cleared plan core calls caller is lawful sound good n booked (cleared plan core calls caller is lawful sound good (works_loose plan core calls caller is lawful sound good n given.rest given.first) n booked given)
+      held_cleared plan core calls caller is lawful sound n booked (cleared plan core calls caller is lawful sound (works_loose plan core calls caller is lawful sound n given.rest given.first) n booked given)
   by_why d (why.writes_code local field content n at to) =
-      let w = works_running plan core calls caller is lawful sound good at.running in
-      let fits = write_fits (source_of plan) (types_of w.0.op) (Write local field content) ((code_now plan core calls caller is lawful sound good w).typed frame.place (Write local field content) at.there) local field content refl in (
-        local_held plan core calls caller is lawful sound good w local n to,
-        content_may plan core calls caller is lawful sound good w fits.kind fits.ty field fits.has_field content fits.fits (number_hand plan core calls caller is lawful sound good w local field content at),
+      let w = works_running plan core calls caller is lawful sound at.running in
+      let fits = write_fits (source_of plan) (types_of w.0.op) (Write local field content) ((code_now plan core calls caller is lawful sound w).typed frame.place (Write local field content) at.there) local field content refl in (
+        local_held plan core calls caller is lawful sound w local n to,
+        content_may plan core calls caller is lawful sound w fits.kind fits.ty field fits.has_field content fits.fits (number_hand plan core calls caller is lawful sound w local field content at),
       )
   by_why d (why.writes_first field n target value booked given at hand to may) =
-      (held_cleared plan core calls caller is lawful sound good n booked (cleared plan core calls caller is lawful sound good (works_loose plan core calls caller is lawful sound good n given.rest given.first) n booked given), tt)
+      (held_cleared plan core calls caller is lawful sound n booked (cleared plan core calls caller is lawful sound (works_loose plan core calls caller is lawful sound n given.rest given.first) n booked given), tt)
   by_why d (why.takes_code n at to other) =
-      let w = works_running plan core calls caller is lawful sound good at.running in
-      let before = hand_before plan core calls caller is lawful sound good w Want at in
+      let w = works_running plan core calls caller is lawful sound at.running in
+      let before = hand_before plan core calls caller is lawful sound w Want at in
       let got = before.read in
       let named = field_names (source_of plan) heap sound.heap n got.name got.object got.there before.field (same_some (sym got.in_hand ∙ target_held frame.hand n to)) in
       to_take n named.0 named.1.0 named.1.1 other
   by_why d (why.takes_first field n target value booked given at hand to other) =
-      let w = works_loose plan core calls caller is lawful sound good n given.rest given.first in
-      let c = cleared plan core calls caller is lawful sound good w n booked given in
-      let named = field_names (source_of plan) heap sound.heap target n c.object c.there field (sym (cleared_hand plan core calls caller is lawful sound good n booked c value field hand at) ∙ target_value value target to) in
+      let w = works_loose plan core calls caller is lawful sound n given.rest given.first in
+      let c = cleared plan core calls caller is lawful sound w n booked given in
+      let named = field_names (source_of plan) heap sound.heap target n c.object c.there field (sym (cleared_hand plan core calls caller is lawful sound n booked c value field hand at) ∙ target_value value target to) in
       to_take target named.0 named.1.0 named.1.1 (either (has_booked frame target) frame.seen other)
-  by_why d (why.lets_go n rest first what) = (loose_held plan core calls caller is lawful sound good (works_loose plan core calls caller is lawful sound good n rest first) n rest first).held
+  by_why d (why.lets_go n rest first what) = (loose_held plan core calls caller is lawful sound (works_loose plan core calls caller is lawful sound n rest first) n rest first).held
   by_why d (why.gives_up n booked given none) =
-      held_cleared plan core calls caller is lawful sound good n booked (cleared plan core calls caller is lawful sound good (works_loose plan core calls caller is lawful sound good n given.rest given.first) n booked given)
+      held_cleared plan core calls caller is lawful sound n booked (cleared plan core calls caller is lawful sound (works_loose plan core calls caller is lawful sound n given.rest given.first) n booked given)
   by_why d (why.seals end entry rest tidy ended null entries) =
       let are = subst (AreEntries frame.book) entries (entries_are names frame.book) in
       let at = (sound.each caller).book.booked entry.0 entry.1 are.0 in
@@ -136,7 +135,7 @@ module _ (plan : Plan) (core : Core) (calls : Calls) (caller : ℕ) (is : IsPlan
       by : (o : Option Object) → finite.get heap (next_name frame) ≡ o → finite.get heap (next_name frame) ≡ None
       by None e = e
       by (Some object) e =
-          let w = works_running plan core calls caller is lawful sound good at.running in
+          let w = works_running plan core calls caller is lawful sound at.running in
           let early : frame.made + 1 ≤ frame.made = w.2.own_names (next_name frame) object e refl in
           absurd (omega (arith, early))
   by_why d (why.finishes end tidy stage null none) = tt

@@ -20,7 +20,6 @@ use Rattle.dl_core.specs.declared.answers.Progress.TheVariants as progress
 use Rattle.dl_core.specs.declared.objects.Object.{Object}
 use Rattle.dl_core.specs.declared.stages.Booked.{Booked}
 use Rattle.dl_core.specs.declared.stages.Stage.TheVariants as stages
-use Rattle.dl_core.specs.Codes.{HasGoodCode}
 use Rattle.dl_core.specs.Heaps.{Heap, put_at, plain}
 use Rattle.dl_core.specs.Plans.{Plan, IsPlan, steps_of, reference_from}
 use Rattle.dl_core.specs.Frames.{Book, Frame, idle, at_rest, is_to_loosen, loosened, has_booked}
@@ -34,12 +33,13 @@ use Rattle.dl_core.specs.Reached.{Calls}
 use Rattle.dl_core.specs.Reach.{ticket_in}
 use Rattle.dl_core.specs.Sound.{HasBook}
 use Rattle.dl_core.specs.Laws as laws
-use Rattle.dl_core.specs.Laws.{IsKept, StepsKeep, Leads}
+use Rattle.dl_core.specs.Laws.{IsKept, Leads}
 use Rattle.dl_core.proofs.Names.{same_some, no_some}
 use Rattle.dl_core.proofs.Diamond.{moves→step}
 use Rattle.dl_core.proofs.Machine.{touch_moves}
 use Rattle.dl_core.proofs.LocalSteps.{ready_keeps, ready_stays}
 use Rattle.dl_core.proofs.Lone.{Lone, Finds, Ends}
+use Rattle.dl_core.proofs.StepsKeep.{steps_keep}
 use Rattle.dl_core.proofs.LoneFinds.{finds_due, one_is, several_refer}
 use Rattle.dl_core.proofs.EndPhase.{EndAt, settles}
 use Rattle.dl_core.proofs.Body.{Over}
@@ -154,17 +154,17 @@ module _ (plan : Plan) (caller : ℕ) (frames : List Frame) (pool : Pool) where
         moves→step (rules_of plan) (Here heap frame) caller _ moves ∙ ap Some (again_here (put_at heap name left) frame after)
 
     -- and keeps the state lawful and sound
-    pub here_kept : StepsKeep → IsPlan plan → (heap : Heap) (frame after : Frame) (name : Name) (left : Option Object) → IsHere heap frame → aim (due plan frame) ≡ Some name
+    pub here_kept : IsPlan plan → (heap : Heap) (frame after : Frame) (name : Name) (left : Option Object) → IsHere heap frame → aim (due plan frame) ≡ Some name
         → act plan caller frame (due plan frame) (finite.get heap name) ≡ Some (after, left) → IsHere (put_at heap name left) after
-    here_kept keep is heap frame after name left here at acts =
+    here_kept is heap frame after name left here at acts =
         let core = Machine here.clock heap frame in
         let same = frame_here heap frame in
         let steps = touch_step plan core caller frame name (after, left) (due plan frame) at acts in
         let stepped : step plan core caller ≡ Some (acted core caller name (after, left), steps.0) = ap (λ (f : Frame). step_due plan core caller f (due plan f)) same ∙ steps.1 in
-        let kept = keep plan core (acted core caller name (after, left)) here.calls caller steps.0 is here.kept stepped in
+        let kept = steps_keep plan core (acted core caller name (after, left)) here.calls caller steps.0 is here.kept stepped in
         record { clock = here.clock; calls = here.calls; kept = subst (λ w. IsKept plan (record { world = w; clock = here.clock; pool = pool }) here.calls) (again_here (put_at heap name left) frame after) kept }
 
-    module _ (others : (other : ℕ) → other ≢ caller → (get_or frames other idle).ticket ≡ 0) (is : IsPlan plan) (good : HasGoodCode plan) (keep : StepsKeep) (turns : (call : Call) → GoesBackToTurns (steps_of plan call)) where
+    module _ (others : (other : ℕ) → other ≢ caller → (get_or frames other idle).ticket ≡ 0) (is : IsPlan plan) (turns : (call : Call) → GoesBackToTurns (steps_of plan call)) where
       pub alone_here : (heap : Heap) (frame : Frame) (other : ℕ) → other ≢ caller → ticket_in (Here heap frame) other ≡ 0
       alone_here heap frame other apart = ap (λ (f : Frame). f.ticket) (get_or-set_other frames caller other frame idle apart) ∙ others other apart
 
@@ -177,15 +177,15 @@ module _ (plan : Plan) (caller : ℕ) (frames : List Frame) (pool : Pool) where
         turns = turns;
         Inv = IsHere;
         finds = λ heap frame here. subst (λ f. Finds heap caller (due plan f)) (frame_here heap frame)
-            (finds_due plan (Machine here.clock heap frame) here.calls caller is here.kept.lawful here.kept.sound good (alone_here heap frame));
+            (finds_due plan (Machine here.clock heap frame) here.calls caller is here.kept.lawful here.kept.sound (alone_here heap frame));
         book = λ heap frame here. subst (HasBook heap caller) (frame_here heap frame) (here.kept.sound.each caller).book;
-        hidden = λ heap frame here name object there hid. one_is plan (Machine here.clock heap frame) here.calls caller is here.kept.lawful here.kept.sound good (alone_here heap frame) name object there hid;
+        hidden = λ heap frame here name object there hid. one_is plan (Machine here.clock heap frame) here.calls caller is here.kept.lawful here.kept.sound (alone_here heap frame) name object there hid;
         several = λ heap frame end here over_is tidy none name held.
             let same = frame_here heap frame in
-            several_refer plan (Machine here.clock heap frame) here.calls caller is here.kept.lawful here.kept.sound good (alone_here heap frame) end (ap (λ (f : Frame). f.stage) same ∙ over_is) (ap (λ (f : Frame). f.loose) same ∙ tidy)
+            several_refer plan (Machine here.clock heap frame) here.calls caller is here.kept.lawful here.kept.sound (alone_here heap frame) end (ap (λ (f : Frame). f.stage) same ∙ over_is) (ap (λ (f : Frame). f.loose) same ∙ tidy)
             (ap (λ (f : Frame). first_referring 0 f.locals) same ∙ none) name held;
         Done = Done;
-        onward = λ heap frame after name left here at acts more. goes heap frame (put_at heap name left) after (rule_step heap frame after name left at acts) (more (here_kept keep is heap frame after name left here at acts));
+        onward = λ heap frame after name left here at acts more. goes heap frame (put_at heap name left) after (rule_step heap frame after name left at acts) (more (here_kept is heap frame after name left here at acts));
       }
 
       -- places: those that are spare, and the hidden objects

@@ -31,7 +31,6 @@ use Rattle.dl_instr.specs.Drops.{IsWithDrops}
 use Rattle.dl_core.specs.declared.objects.Object.{Object}
 use Rattle.dl_core.specs.declared.stages.Finished.{Finished}
 use Rattle.dl_core.specs.declared.stages.Stage.TheVariants as stages
-use Rattle.dl_core.specs.Codes.{PlansHaveGoodCode}
 use Rattle.dl_core.specs.Heaps.{Heap, plain, plain_object}
 use Rattle.dl_core.specs.Plans.{Plan, IsPlan, source_of, op_of, steps_of, allocs_of, fuel_of, locals_of, roots_of}
 use Rattle.dl_core.specs.Frames.{Frame, idle, at_rest, waiting}
@@ -41,10 +40,11 @@ use Rattle.dl_core.specs.Steps.{World, Rules, Nowhere, Alone, over, then_on, fra
 use Rattle.dl_core.specs.Core.{Core, Shared, Pool, frame_of, rules_of}
 use Rattle.dl_core.specs.Reached.{Calls}
 use Rattle.dl_core.specs.Laws as laws
-use Rattle.dl_core.specs.Laws.{IsKept, StepsKeep, HasJustEntered, IsOutcome, RunsAlone, LoneRunsEnd, LoneRunsAreSerial}
+use Rattle.dl_core.specs.Laws.{IsKept, HasJustEntered, IsOutcome, RunsAlone, LoneRunsEnd, LoneRunsAreSerial}
 use Rattle.dl_core.proofs.Names.{same_some, no_some}
 use Rattle.dl_core.proofs.Plain.{get_plain}
 use Rattle.dl_core.proofs.Kept.{ready_same}
+use Rattle.dl_core.proofs.GoodCode.{plans_have_good_code}
 use Rattle.dl_core.proofs.Prunes.{unpruned}
 use Rattle.dl_core.proofs.Alike.{level, is_same_value}
 use Rattle.dl_core.proofs.Lone.{Lone, Ends}
@@ -91,7 +91,7 @@ module _ (l : Lone) (base : Frame) (op : OpDecl) (drops : IsWithDrops op (op_cod
 
 -- ---- an operation that has just entered
 
-module _ (keep : StepsKeep) (have_good : PlansHaveGoodCode) (plan : Plan) (core : Core) (calls : Calls) (caller ticket : ℕ) (call : Call) (is : IsPlan plan) (kept : IsKept plan core calls)
+module _ (plan : Plan) (core : Core) (calls : Calls) (caller ticket : ℕ) (call : Call) (is : IsPlan plan) (kept : IsKept plan core calls)
     (just : HasJustEntered plan core.world caller ticket call) where
   abbrev heap : Heap
   heap = core.world.heap
@@ -142,7 +142,7 @@ module _ (keep : StepsKeep) (have_good : PlansHaveGoodCode) (plan : Plan) (core 
     | inl less ↦
         let there = slice_get-get_or plan.code.ops any.op [] less in
         let found = same_place plan.code.ops source.ops any.op (steps_of plan any) is.code.one_each there in
-        (have_good plan is any.op found.0 (steps_of plan any) found.1 there).turns
+        (plans_have_good_code plan is any.op found.0 (steps_of plan any) found.1 there).turns
     | inr past ↦ subst GoesBackToTurns (sym (past_list plan.code.ops any.op [] past)) no_turns_back
   ]
 
@@ -160,7 +160,7 @@ module _ (keep : StepsKeep) (have_good : PlansHaveGoodCode) (plan : Plan) (core 
 
   total_is : (other : Heap) (frame : Frame) → IsHere plan caller frames pool other frame → frame.spares + hidden_count (plain other) ≡ total
   total_is other frame here =
-      places_here plan caller frames pool within just.alone is (have_good plan is) keep turns_back other heap frame (ready plan base) here start
+      places_here plan caller frames pool within just.alone is turns_back other heap frame (ready plan base) here start
       ∙ ap (λ n. n + hidden_count (plain heap)) (ready_same plan base).6
 
   -- the frame when the body has ended
@@ -168,10 +168,10 @@ module _ (keep : StepsKeep) (have_good : PlansHaveGoodCode) (plan : Plan) (core 
   Mid frame = (how : End) × (frame.stage ≡ stages.Ended how) × ((o : OpDecl) → op_of plan call ≡ Some o → frame.turns ≡ (body_outcome source (plain heap) ticket call.args o).state.turns)
 
   abbrev Leaves : Shared → Type 0
-  Leaves left = Final plan caller frames pool within just.alone is (have_good plan is) keep turns_back base total given.objects given.answer Mid left
+  Leaves left = Final plan caller frames pool within just.alone is turns_back base total given.objects given.answer Mid left
 
   abbrev run : Lone
-  run = lone_whole plan caller frames pool within just.alone is (have_good plan is) keep turns_back Leaves Mid
+  run = lone_whole plan caller frames pool within just.alone is turns_back Leaves Mid
 
   abbrev first : State
   first = begun op call.args (plain heap) op.fuel
@@ -179,7 +179,7 @@ module _ (keep : StepsKeep) (have_good : PlansHaveGoodCode) (plan : Plan) (core 
   over_all : (t : State) (end : Option End) → RunsBlock (context_of source ticket op) op.body first t end → Over run base (end_of end) t
   over_all t end runs =
       let gives : given ≡ result_of (outcome t end) = calls_give_the_outcome source (plain heap) ticket call op t end just.fits.declared runs in
-      over_on plan caller frames pool within just.alone is (have_good plan is) keep turns_back base total given.objects given.answer Mid t (end_of end) (ap (λ (r : Result). r.objects) (sym gives)) (ap (λ (r : Result). r.answer) (sym gives))
+      over_on plan caller frames pool within just.alone is turns_back base total given.objects given.answer Mid t (end_of end) (ap (λ (r : Result). r.objects) (sym gives)) (ap (λ (r : Result). r.answer) (sym gives))
       total_is refl (λ frame has. (
         end_of end,
         has.0,
@@ -194,7 +194,7 @@ module _ (keep : StepsKeep) (have_good : PlansHaveGoodCode) (plan : Plan) (core 
       let fuel_is : op.fuel ≡ fuel_of plan call = sym (ap (λ o. option_map_or (λ (p : OpDecl). p.fuel) o 0) just.fits.declared) in
       λ i. record base { locals = locals_are i; turns = fuel_is i }
 
-  done : Comes plan caller frames pool within just.alone is (have_good plan is) keep turns_back Leaves heap (ready plan base) × Passes plan caller frames pool within just.alone is (have_good plan is) keep turns_back Mid heap (ready plan base)
+  done : Comes plan caller frames pool within just.alone is turns_back Leaves heap (ready plan base) × Passes plan caller frames pool within just.alone is turns_back Mid heap (ready plan base)
   done =
       let checked = all_at (IsOperation source) source.ops call.op op is.checked.ops just.fits.declared in
       let from = whole_body run base op drops (ap (λ o. option_map_or (λ (p : OpDecl). p.allocs) o 0) just.fits.declared) is.checked.fields checked.body first
@@ -227,9 +227,9 @@ module _ (keep : StepsKeep) (have_good : PlansHaveGoodCode) (plan : Plan) (core 
         };
       }
 
--- the lone run of an operation that has just entered ends, without a wait, in what its call gives, if steps keep states lawful and sound, and codes are good
-pub lone_runs_end : StepsKeep → PlansHaveGoodCode → LoneRunsEnd
-lone_runs_end keep have_good plan core calls caller ticket call is kept just = ends_so keep have_good plan core calls caller ticket call is kept just
+-- the lone run of an operation that has just entered ends, without a wait, in what its call gives
+pub lone_runs_end : LoneRunsEnd
+lone_runs_end plan core calls caller ticket call is kept just = ends_so plan core calls caller ticket call is kept just
 
 -- ---- there is one lone run
 
@@ -248,7 +248,7 @@ module _ {F : Type 0} (rules : Rules F) (caller : ℕ) where
   one_alone {other = other} (then_on moves rest) (then_on moves' rest') = one_alone rest (subst (λ w. Alone rules caller w other) (one_some moves' moves) rest')
 
 -- and wherever the lone run ends, it ends in that
-pub lone_runs_are_serial : StepsKeep → PlansHaveGoodCode → LoneRunsAreSerial
-lone_runs_are_serial keep have_good plan core calls end caller ticket call is kept just alone =
-    let ends_so = lone_runs_end keep have_good plan core calls caller ticket call is kept just in
+pub lone_runs_are_serial : LoneRunsAreSerial
+lone_runs_are_serial plan core calls end caller ticket call is kept just alone =
+    let ends_so = lone_runs_end plan core calls caller ticket call is kept just in
     subst (λ w. IsOutcome plan core.world w caller ticket call) (one_alone (rules_of plan) caller ends_so.runs alone) ends_so.is

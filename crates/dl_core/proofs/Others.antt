@@ -190,7 +190,7 @@ module _ (heap : Heap) (tickets : ℕ → ℕ) (own : IsOwn tickets) (c : ℕ) (
         where
           by : (p p' : Option Object) → May heap tickets c x p p' → p' ≡ Some b → ((a : Object) × (p ≡ Some a) × ((i : ℕ) → b.mark ≡ Sealed i → i ≢ tickets c → a.mark ≡ Sealed i)) ⊎ ((x.ticket ≡ tickets c) × (b.mark ≡ Held c))
           by p p' (reads {object = a} m) e = inl (a, refl, λ i s n. ap (λ (w : Object). w.mark) (same_some e) ∙ s)
-          by p p' (sees {object = a} i' m) e = inl (a, refl, λ i s n. ap (λ (w : Object). w.mark) (same_some e) ∙ s)
+          by p p' (sees {object = a} i' source m no_root holder link) e = inl (a, refl, λ i s n. ap (λ (w : Object). w.mark) (same_some e) ∙ s)
           by p p' (writes {object = a} field value m lose may) e = inl (a, refl, λ i s n. ap (λ (w : Object). w.mark) (same_some e) ∙ s)
           by p p' (takes {object = a} from m hid hq l) e = inl (a, refl, λ i s n. absurd (sealed_held (sym s ∙ sym (ap (λ (w : Object). w.mark) (same_some e)))))
           by p p' (takes_root {object = a} m z w) e = inl (a, refl, λ i s n. absurd (sealed_held (sym s ∙ sym (ap (λ (w' : Object). w'.mark) (same_some e)))))

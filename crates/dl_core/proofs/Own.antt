@@ -22,7 +22,7 @@ use Rattle.dl_core.specs.declared.objects.Object.{Object}
 use Rattle.dl_core.specs.declared.stages.Booked.{Booked}
 use Rattle.dl_core.specs.declared.stages.Stage.TheVariants as stages
 use Rattle.dl_core.specs.Codes as codes
-use Rattle.dl_core.specs.Codes.{IsGoodCode, HasGoodCode, IsFilledFor, IsReadAt}
+use Rattle.dl_core.specs.Codes.{IsGoodCode, IsFilledFor, IsReadAt}
 use Rattle.dl_core.specs.Heaps.{Heap, put_at, field_of, plain, IsHeld, IsSealed}
 use Rattle.dl_core.specs.Plans.{Plan, IsPlan, source_of, steps_of, reference_from}
 use Rattle.dl_core.specs.Frames.{Frame, advanced, with_hand, ended, target_at, target_in_hand}
@@ -41,7 +41,7 @@ use Rattle.dl_core.proofs.Course.{IsGoing, loose_as}
 use Rattle.dl_core.proofs.GoesOn.{ready_going, onward, tidy_hand, type_of_value, kind_of_local}
 use Rattle.dl_core.proofs.Events.{Works, code_now, hand_before, cleared, IsCleared}
 
-module _ (plan : Plan) (core : Core) (calls : Calls) (caller : ℕ) (is : IsPlan plan) (lawful : IsLawful plan core calls) (sound : IsSound plan core calls) (good : HasGoodCode plan) where
+module _ (plan : Plan) (core : Core) (calls : Calls) (caller : ℕ) (is : IsPlan plan) (lawful : IsLawful plan core calls) (sound : IsSound plan core calls) where
   abbrev heap : Heap
   heap = core.world.heap
 
@@ -49,12 +49,12 @@ module _ (plan : Plan) (core : Core) (calls : Calls) (caller : ℕ) (is : IsPlan
   frame = frame_of core.world caller
 
   abbrev Entered : Type 0
-  Entered = Works plan core calls caller is lawful sound good
+  Entered = Works plan core calls caller is lawful sound
 
   -- what holds of a caller that has entered
   pub going_now : (w : Entered) → IsGoing plan heap caller w.0.op frame
   going_now w = record {
-    code = code_now plan core calls caller is lawful sound good w;
+    code = code_now plan core calls caller is lawful sound w;
     book = (sound.each caller).book;
     works = w.2;
     held = λ local name e. lawful.locals_held caller local name w.1 e;
@@ -156,7 +156,7 @@ module _ (plan : Plan) (core : Core) (calls : Calls) (caller : ℕ) (is : IsPlan
   reads_code w local field name object at to found held =
       onward plan heap caller w.0.op sound.heap frame (frame.place + 1) frame.turns (Some (field_of object field)) (going_now w) at.tidy at.running
       (after_read w local field name object (with_hand (Some (field_of object field)) (advanced frame)) at.there to found held refl refl refl refl)
-      (λ n e. absurd (no_some (sym (ap target_of (hand_before plan core calls caller is lawful sound good w (Read local field) at)) ∙ e)))
+      (λ n e. absurd (no_some (sym (ap target_of (hand_before plan core calls caller is lawful sound w (Read local field) at)) ∙ e)))
 
   -- the first loose object's field is read
   pub reads_first : (w : Entered) (field : ℕ) (name : Name) (booked : Booked) (given : IsGivenUp frame name booked) → reference_from plan booked.kind frame.cursor ≡ Some field → frame.hand ≡ None
@@ -181,8 +181,8 @@ module _ (plan : Plan) (core : Core) (calls : Calls) (caller : ℕ) (is : IsPlan
       next : Frame
       next = with_hand (Some (field_of object field)) frame
 
-      c : IsCleared plan core calls caller is lawful sound good name booked
-      c = cleared plan core calls caller is lawful sound good w name booked given
+      c : IsCleared plan core calls caller is lawful sound name booked
+      c = cleared plan core calls caller is lawful sound w name booked given
 
       now : HasCleared plan heap frame name → HasCleared plan heap (with_hand (Some (field_of object field)) frame) name
       now h =
@@ -259,7 +259,7 @@ module _ (plan : Plan) (core : Core) (calls : Calls) (caller : ℕ) (is : IsPlan
 
       now : HasCleared plan heap (record frame { seen = true }) name
       now =
-          let c = cleared plan core calls caller is lawful sound good w name booked given in
+          let c = cleared plan core calls caller is lawful sound w name booked given in
           clears c.object c.there given.hidden c.unreferred (record {
             before = c.clearing.before;
             in_hand = c.clearing.in_hand;

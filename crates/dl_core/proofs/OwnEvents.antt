@@ -15,7 +15,6 @@ use Rattle.dl_core.specs.declared.objects.Mark.TheVariants.{Free, Held, Sealed}
 use Rattle.dl_core.specs.declared.objects.Object.{Object}
 use Rattle.dl_core.specs.declared.stages.Booked.{Booked}
 use Rattle.dl_core.specs.declared.stages.Stage.TheVariants as stages
-use Rattle.dl_core.specs.Codes.{HasGoodCode}
 use Rattle.dl_core.specs.Heaps.{Heap, field_of, IsSealed}
 use Rattle.dl_core.specs.Plans.{Plan, IsPlan, allocs_of, reference_from}
 use Rattle.dl_core.specs.Frames.{Frame, advanced, ended, with_hand, with_booked, loosened, raised, lowered, target_in_hand, target_at}
@@ -39,7 +38,7 @@ use Rattle.dl_core.proofs.Own.{Keeps, made_ready, looks, reads_code, reads_first
 use Rattle.dl_core.proofs.OwnTakes.{takes_code, takes_first, lets_go_first, gives_up_first, seals_one, makes_one}
 use Rattle.dl_core.proofs.OwnWrites.{writes_code, writes_first}
 
-module _ (plan : Plan) (core : Core) (calls : Calls) (caller : ℕ) (is : IsPlan plan) (lawful : IsLawful plan core calls) (sound : IsSound plan core calls) (good : HasGoodCode plan) where
+module _ (plan : Plan) (core : Core) (calls : Calls) (caller : ℕ) (is : IsPlan plan) (lawful : IsLawful plan core calls) (sound : IsSound plan core calls) where
   abbrev heap : Heap
   heap = core.world.heap
 
@@ -47,7 +46,7 @@ module _ (plan : Plan) (core : Core) (calls : Calls) (caller : ℕ) (is : IsPlan
   frame = frame_of core.world caller
 
   abbrev Kept : OpDecl → Name → Option Object → Frame → Type 0
-  Kept op name left next = Keeps plan core calls caller is lawful sound good op name left next
+  Kept op name left next = Keeps plan core calls caller is lawful sound op name left next
 
   -- and is ready
   abbrev Done : OpDecl → Name → Option Object → Frame → Type 0
@@ -55,12 +54,12 @@ module _ (plan : Plan) (core : Core) (calls : Calls) (caller : ℕ) (is : IsPlan
 
   -- what an event leaves, made ready
   settle : (op : OpDecl) (name : Name) (left : Option Object) (effect : Frame) (outcome : Acted) → Kept op name left effect → (ready plan effect, left) ≡ outcome → Done op name outcome.1 outcome.0
-  settle op name left effect outcome k e = subst (λ (o : Acted). Done op name o.1 o.0) e (made_ready plan core calls caller is lawful sound good op name left effect k, is_ready plan effect k.going.code.turns)
+  settle op name left effect outcome k e = subst (λ (o : Acted). Done op name o.1 o.0) e (made_ready plan core calls caller is lawful sound op name left effect k, is_ready plan effect k.going.code.turns)
 
   at_there : (what : Due) (name : Name) (object : Object) (outcome : Acted) → finite.get heap name ≡ Some object → act plan caller frame what (finite.get heap name) ≡ Some outcome → act_on plan caller frame what object ≡ Some outcome
   at_there what name object outcome there acts = sym (ap (act plan caller frame what) there) ∙ acts
 
-  module _ (w : Works plan core calls caller is lawful sound good) where
+  module _ (w : Works plan core calls caller is lawful sound) where
     -- the object stays as it is
     look_at : (name : Name) (object : Object) (effect : Frame) → finite.get heap name ≡ Some object → Kept w.0.op name (finite.get heap name) effect → Kept w.0.op name (Some object) effect
     look_at name object effect there k = subst (λ o. Kept w.0.op name o effect) there k
@@ -71,43 +70,43 @@ module _ (plan : Plan) (core : Core) (calls : Calls) (caller : ℕ) (is : IsPlan
 
     own_reads_code : (local field : ℕ) (n : Name) → IsAtStep plan frame (Read local field) → target_at frame local ≡ Some n → (outcome : Acted) → act plan caller frame (Reads n field) (finite.get heap n) ≡ Some outcome → Done w.0.op n outcome.1 outcome.0
     own_reads_code local field n at to outcome acts =
-        let held = local_held plan core calls caller is lawful sound good w local n to in
+        let held = local_held plan core calls caller is lawful sound w local n to in
         let v = field_of held.object field in
         settle w.0.op n (Some held.object) (with_hand (Some v) (moved_on frame.loose frame)) outcome
         (look_at n held.object (with_hand (Some v) (moved_on frame.loose frame)) held.there
         (subst (λ l. Kept w.0.op n (finite.get heap n) (with_hand (Some v) (moved_on l frame))) (sym at.tidy)
-        (looks plan core calls caller is lawful sound good w.0.op n (with_hand (Some v) (advanced frame)) refl refl (refl, refl, refl, refl) (reads_code plan core calls caller is lawful sound good w local field n held.object at to held.there held.held))))
+        (looks plan core calls caller is lawful sound w.0.op n (with_hand (Some v) (advanced frame)) refl refl (refl, refl, refl, refl) (reads_code plan core calls caller is lawful sound w local field n held.object at to held.there held.held))))
         (same_some (at_there (Reads n field) n held.object outcome held.there acts))
 
     own_reads_first : (field : ℕ) (n : Name) (booked : Booked) (given : IsGivenUp frame n booked) → reference_from plan booked.kind frame.cursor ≡ Some field → frame.hand ≡ None
         → (outcome : Acted) → act plan caller frame (Reads n field) (finite.get heap n) ≡ Some outcome → Done w.0.op n outcome.1 outcome.0
     own_reads_first field n booked given at none outcome acts =
-        let c = cleared plan core calls caller is lawful sound good w n booked given in
+        let c = cleared plan core calls caller is lawful sound w n booked given in
         let v = field_of c.object field in
         settle w.0.op n (Some c.object) (with_hand (Some v) (moved_on frame.loose frame)) outcome
         (look_at n c.object (with_hand (Some v) (moved_on frame.loose frame)) c.there
         (subst (λ l. Kept w.0.op n (finite.get heap n) (with_hand (Some v) (moved_on l frame))) (sym given.first)
-        (looks plan core calls caller is lawful sound good w.0.op n (with_hand (Some v) frame) refl refl (refl, refl, refl, refl) (reads_first plan core calls caller is lawful sound good w field n booked given at none c.object c.there))))
+        (looks plan core calls caller is lawful sound w.0.op n (with_hand (Some v) frame) refl refl (refl, refl, refl, refl) (reads_first plan core calls caller is lawful sound w field n booked given at none c.object c.there))))
         (same_some (at_there (Reads n field) n c.object outcome c.there acts))
 
     own_writes_code : (local field : ℕ) (content : _) (n : Name) → IsAtStep plan frame (Write local field content) → target_at frame local ≡ Some n
         → (outcome : Acted) → act plan caller frame (Writes n field (content_of content frame)) (finite.get heap n) ≡ Some outcome → Done w.0.op n outcome.1 outcome.0
     own_writes_code local field content n at to outcome acts =
-        let held = local_held plan core calls caller is lawful sound good w local n to in
+        let held = local_held plan core calls caller is lawful sound w local n to in
         let gone : Frame = record frame { hand = None; book = raised (target_in (content_of content frame)) (lowered (target_in_hand frame) frame.book) } in
         settle w.0.op n _ (loosened (target_in_hand frame) (moved_past frame.loose field gone)) outcome
         (subst (λ l. Kept w.0.op n (Some (record held.object { fields = slice_set held.object.fields field (content_of content frame) })) (loosened (target_in_hand frame) (moved_past l field gone))) (sym at.tidy)
-        (writes_code plan core calls caller is lawful sound good w local field content n at to held.object held.there held.held))
+        (writes_code plan core calls caller is lawful sound w local field content n at to held.object held.there held.held))
         (same_some (at_there (Writes n field (content_of content frame)) n held.object outcome held.there acts))
 
     own_writes_first : (field : ℕ) (n target : Name) (value : Value) (booked : Booked) (given : IsGivenUp frame n booked) → reference_from plan booked.kind frame.cursor ≡ Some field → frame.hand ≡ Some value → target_in value ≡ Some target
         → (outcome : Acted) → act plan caller frame (Writes n field (Ref None)) (finite.get heap n) ≡ Some outcome → Done w.0.op n outcome.1 outcome.0
     own_writes_first field n target value booked given at hand to outcome acts =
-        let c = cleared plan core calls caller is lawful sound good w n booked given in
+        let c = cleared plan core calls caller is lawful sound w n booked given in
         let gone : Frame = record frame { hand = None; book = raised None (lowered (target_in_hand frame) frame.book) } in
         settle w.0.op n _ (loosened (target_in_hand frame) (moved_past frame.loose field gone)) outcome
         (subst (λ l. Kept w.0.op n (Some (record c.object { fields = slice_set c.object.fields field (Ref None) })) (loosened (target_in_hand frame) (moved_past l field gone))) (sym given.first)
-        (writes_first plan core calls caller is lawful sound good w field n target value booked given at hand to c.object c.there c.held))
+        (writes_first plan core calls caller is lawful sound w field n target value booked given at hand to c.object c.there c.held))
         (same_some (at_there (Writes n field (Ref None)) n c.object outcome c.there acts))
 
     -- a take, or a look at what is sealed
@@ -128,13 +127,13 @@ module _ (plan : Plan) (core : Core) (calls : Calls) (caller : ℕ) (is : IsPlan
 
     own_takes_code : (n : Name) → IsAtStep plan frame Want → target_in_hand frame ≡ Some n → (outcome : Acted) → act plan caller frame (Takes n) (finite.get heap n) ≡ Some outcome → Done w.0.op n outcome.1 outcome.0
     own_takes_code n at to =
-        let before = hand_before plan core calls caller is lawful sound good w Want at in
+        let before = hand_before plan core calls caller is lawful sound w Want at in
         let got = before.read in
         let value : field_of got.object before.field ≡ Ref (Some n) = same_some (sym got.in_hand ∙ target_held frame.hand n to) in
         let hidden = link_hidden heap lawful.free_refs got.name n (field_links heap got.name n got.object before.field got.there value) in
         own_takes n
-        (λ object there free. subst (λ l. Kept w.0.op n (Some (record object { mark = Held caller })) (with_booked n object.kind 1 (moved_on l frame))) (sym at.tidy) (takes_code plan core calls caller is lawful sound good w n object there free hidden to at))
-        (λ sealed. subst (λ l. Kept w.0.op n (finite.get heap n) (seen_by l n frame)) (sym at.tidy) (looks plan core calls caller is lawful sound good w.0.op n (seen_by [] n frame) refl refl (refl, refl, refl, refl) (sees_code plan core calls caller is lawful sound good w n at to sealed)))
+        (λ object there free. subst (λ l. Kept w.0.op n (Some (record object { mark = Held caller })) (with_booked n object.kind 1 (moved_on l frame))) (sym at.tidy) (takes_code plan core calls caller is lawful sound w n object there free hidden to at))
+        (λ sealed. subst (λ l. Kept w.0.op n (finite.get heap n) (seen_by l n frame)) (sym at.tidy) (looks plan core calls caller is lawful sound w.0.op n (seen_by [] n frame) refl refl (refl, refl, refl, refl) (sees_code plan core calls caller is lawful sound w n at to sealed)))
 
     hand_target : (o : Option Value) (v : Value) (t : Name) → o ≡ Some v → target_in v ≡ Some t → target_of o ≡ Some t
     hand_target o v t e f = ap target_of (e ∙ ap Some (target_value v t f))
@@ -142,32 +141,32 @@ module _ (plan : Plan) (core : Core) (calls : Calls) (caller : ℕ) (is : IsPlan
     own_takes_first : (field : ℕ) (n target : Name) (value : Value) (booked : Booked) (given : IsGivenUp frame n booked) → reference_from plan booked.kind frame.cursor ≡ Some field → frame.hand ≡ Some value → target_in value ≡ Some target
         → (outcome : Acted) → act plan caller frame (Takes target) (finite.get heap target) ≡ Some outcome → Done w.0.op target outcome.1 outcome.0
     own_takes_first field n target value booked given at hand to =
-        let c = cleared plan core calls caller is lawful sound good w n booked given in
-        let in_field = cleared_hand plan core calls caller is lawful sound good n booked c value field hand at in
+        let c = cleared plan core calls caller is lawful sound w n booked given in
+        let in_field = cleared_hand plan core calls caller is lawful sound n booked c value field hand at in
         let hidden = link_hidden heap lawful.free_refs n target (field_links heap n target c.object field c.there (sym in_field ∙ target_value value target to)) in
         own_takes target
         (λ object there free. subst (λ l. Kept w.0.op target (Some (record object { mark = Held caller })) (with_booked target object.kind 1 (moved_on l frame))) (sym given.first)
-        (takes_first plan core calls caller is lawful sound good w target object there free hidden (hand_target frame.hand value target hand to) n booked given))
+        (takes_first plan core calls caller is lawful sound w target object there free hidden (hand_target frame.hand value target hand to) n booked given))
         (λ sealed. subst (λ l. Kept w.0.op target (finite.get heap target) (seen_by l target frame)) (sym given.first)
-        (looks plan core calls caller is lawful sound good w.0.op target (record frame { seen = true }) refl refl (refl, refl, refl, refl) (sees_first plan core calls caller is lawful sound good w field n target value booked given hand to sealed)))
+        (looks plan core calls caller is lawful sound w.0.op target (record frame { seen = true }) refl refl (refl, refl, refl, refl) (sees_first plan core calls caller is lawful sound w field n target value booked given hand to sealed)))
 
     own_lets_go : (n : Name) (rest : List Name) (first : frame.loose ≡ n ∷ rest)
         → (finite.get frame.book n ≡ None) ⊎ ((booked : Booked) × (finite.get frame.book n ≡ Some booked) × ((nat_lt 0 n.ticket && (booked.fields == 0)) ≡ false)) → (outcome : Acted) → act plan caller frame (LetsGo n) (finite.get heap n) ≡ Some outcome → Done w.0.op n outcome.1 outcome.0
     own_lets_go n rest first what outcome acts =
-        let l = (loose_held plan core calls caller is lawful sound good w n rest first).held in
-        settle w.0.op n _ _ outcome (lets_go_first plan core calls caller is lawful sound good w n rest first what l.object l.there l.held) (same_some (at_there (LetsGo n) n l.object outcome l.there acts))
+        let l = (loose_held plan core calls caller is lawful sound w n rest first).held in
+        settle w.0.op n _ _ outcome (lets_go_first plan core calls caller is lawful sound w n rest first what l.object l.there l.held) (same_some (at_there (LetsGo n) n l.object outcome l.there acts))
 
     own_gives_up : (n : Name) (booked : Booked) (given : IsGivenUp frame n booked) → reference_from plan booked.kind frame.cursor ≡ None → (outcome : Acted) → act plan caller frame (GivesUp n) (finite.get heap n) ≡ Some outcome → Done w.0.op n outcome.1 outcome.0
     own_gives_up n booked given none outcome acts =
-        let c = cleared plan core calls caller is lawful sound good w n booked given in
-        settle w.0.op n _ _ outcome (gives_up_first plan core calls caller is lawful sound good w n booked given none) (same_some (at_there (GivesUp n) n c.object outcome c.there acts))
+        let c = cleared plan core calls caller is lawful sound w n booked given in
+        settle w.0.op n _ _ outcome (gives_up_first plan core calls caller is lawful sound w n booked given none) (same_some (at_there (GivesUp n) n c.object outcome c.there acts))
 
     own_seals : (end : End) (entry : Name × Booked) (rest : List (Name × Booked)) → frame.loose ≡ [] → frame.stage ≡ stages.Ended end → first_referring 0 frame.locals ≡ None → finite.entries frame.book ≡ entry ∷ rest
         → (outcome : Acted) → act plan caller frame (Seals entry.0) (finite.get heap entry.0) ≡ Some outcome → Done w.0.op entry.0 outcome.1 outcome.0
     own_seals end entry rest tidy ended null entries outcome acts =
         let are = subst (AreEntries frame.book) entries (entries_are names frame.book) in
         let at = (sound.each caller).book.booked entry.0 entry.1 are.0 in
-        settle w.0.op entry.0 _ _ outcome (seals_one plan core calls caller is lawful sound good w end entry.0 at.object tidy ended null at.there at.held (hidden (lawful.held_why caller entry.0 w.1 (record { object = at.object; there = at.there; held = at.held })) entry.0.ticket refl)) (same_some (at_there (Seals entry.0) entry.0 at.object outcome at.there acts))
+        settle w.0.op entry.0 _ _ outcome (seals_one plan core calls caller is lawful sound w end entry.0 at.object tidy ended null at.there at.held (hidden (lawful.held_why caller entry.0 w.1 (record { object = at.object; there = at.there; held = at.held })) entry.0.ticket refl)) (same_some (at_there (Seals entry.0) entry.0 at.object outcome at.there acts))
       where
         hidden : HasReason heap frame entry.0 → (t : ℕ) → entry.0.ticket ≡ t → 0 < entry.0.ticket
         hidden reason (suc t) e = omega (arith, e)
@@ -183,12 +182,12 @@ module _ (plan : Plan) (core : Core) (calls : Calls) (caller : ℕ) (is : IsPlan
       where
         by : (found : Option Object) → finite.get heap (next_name frame) ≡ found → act plan caller frame (Makes (next_name frame) kind) found ≡ Some outcome → Done w.0.op (next_name frame) outcome.1 outcome.0
         by (Some object) p e = absurd (no_some e)
-        by None p e = settle w.0.op (next_name frame) _ _ outcome (makes_one plan core calls caller is lawful sound good w kind at few p) (same_some e)
+        by None p e = settle w.0.op (next_name frame) _ _ outcome (makes_one plan core calls caller is lawful sound w kind at few p) (same_some e)
 
     by_why : (d : Due) → Why plan frame d → (name : Name) → aim d ≡ Some name → (outcome : Acted) → act plan caller frame d (finite.get heap name) ≡ Some outcome → Done w.0.op name outcome.1 outcome.0
     by_why d why.idles name e outcome acts = absurd (no_some e)
     by_why d (why.reserves tidy stage few) name e outcome acts = absurd (no_some e)
-    by_why d (why.takes_root number tidy called next) name e outcome acts = absurd (omega (arith, w.1, called_ticket plan core calls caller is lawful sound good called))
+    by_why d (why.takes_root number tidy called next) name e outcome acts = absurd (omega (arith, w.1, called_ticket plan core calls caller is lawful sound called))
     by_why d (why.enters tidy stage next) name e outcome acts = absurd (no_some e)
     by_why d (why.reads_code local field n at to) name e outcome acts = at_name (Reads n field) n name e outcome (own_reads_code local field n at to outcome) acts
     by_why d (why.reads_first field n booked given at hand) name e outcome acts = at_name (Reads n field) n name e outcome (own_reads_first field n booked given at hand outcome) acts

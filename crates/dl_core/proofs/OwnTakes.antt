@@ -28,7 +28,7 @@ use Rattle.dl_core.specs.declared.objects.Object.{Object}
 use Rattle.dl_core.specs.declared.stages.Booked.{Booked}
 use Rattle.dl_core.specs.declared.stages.Stage.TheVariants as stages
 use Rattle.dl_core.specs.Codes as codes
-use Rattle.dl_core.specs.Codes.{IsGoodCode, HasGoodCode, IsFilledFor, IsTypedStep}
+use Rattle.dl_core.specs.Codes.{IsGoodCode, IsFilledFor, IsTypedStep}
 use Rattle.dl_core.specs.Heaps.{Heap, put_at, refs, field_of, plain, plain_object, is_sealed, IsHeld, IsSealed}
 use Rattle.dl_core.specs.Plans.{Plan, IsPlan, source_of, steps_of, allocs_of, reference_from}
 use Rattle.dl_core.specs.Frames.{Frame, advanced, behind, with_hand, with_booked, without_booked, locals_to, target_in_hand}
@@ -63,7 +63,7 @@ free_sealed e = cc
 held_sealed : {c t : ℕ} → Held c ≡ Sealed t → ⊥
 held_sealed e = cc
 
-module _ (plan : Plan) (core : Core) (calls : Calls) (caller : ℕ) (is : IsPlan plan) (lawful : IsLawful plan core calls) (sound : IsSound plan core calls) (good : HasGoodCode plan) where
+module _ (plan : Plan) (core : Core) (calls : Calls) (caller : ℕ) (is : IsPlan plan) (lawful : IsLawful plan core calls) (sound : IsSound plan core calls) where
   abbrev heap : Heap
   heap = core.world.heap
 
@@ -71,13 +71,13 @@ module _ (plan : Plan) (core : Core) (calls : Calls) (caller : ℕ) (is : IsPlan
   frame = frame_of core.world caller
 
   abbrev Entered : Type 0
-  Entered = Works plan core calls caller is lawful sound good
+  Entered = Works plan core calls caller is lawful sound
 
   abbrev Kept : OpDecl → Name → Option Object → Frame → Type 0
-  Kept op name left next = Keeps plan core calls caller is lawful sound good op name left next
+  Kept op name left next = Keeps plan core calls caller is lawful sound op name left next
 
   going : (w : Entered) → IsGoing plan heap caller w.0.op frame
-  going w = going_now plan core calls caller is lawful sound good w
+  going w = going_now plan core calls caller is lawful sound w
 
   -- ---- takes
 
@@ -158,13 +158,13 @@ module _ (plan : Plan) (core : Core) (calls : Calls) (caller : ℕ) (is : IsPlan
         next = with_booked x object.kind 1 (advanced frame)
 
         before : IsAfterRead plan heap caller frame
-        before = hand_before plan core calls caller is lawful sound good w Want at
+        before = hand_before plan core calls caller is lawful sound w Want at
 
     pub takes_first : (name : Name) (booked : Booked) → IsGivenUp frame name booked → Kept w.0.op x new (with_booked x object.kind 1 frame)
     takes_first name booked given =
         take_going frame.place
         (subst (HandAt plan taken caller next w.0.op) (sym given.first) (
-          changed.cleared_moved heap x new caller plan frame next name (not_held name (loose_held plan core calls caller is lawful sound good w name given.rest given.first).held) (refs_as name) refl refl refl
+          changed.cleared_moved heap x new caller plan frame next name (not_held name (loose_held plan core calls caller is lawful sound w name given.rest given.first).held) (refs_as name) refl refl refl
               (λ m s. changed.sealed_on heap x new caller m (not_sealed m s) s) now.0,
           now.1,
         ))
@@ -293,8 +293,8 @@ module _ (plan : Plan) (core : Core) (calls : Calls) (caller : ℕ) (is : IsPlan
     same = (refl, refl, refl, refl);
   }
     where
-      c : IsCleared plan core calls caller is lawful sound good x booked
-      c = cleared plan core calls caller is lawful sound good w x booked given
+      c : IsCleared plan core calls caller is lawful sound x booked
+      c = cleared plan core calls caller is lawful sound w x booked given
 
       no_reference : reference_from plan c.object.kind frame.cursor ≡ None
       no_reference = ap (λ k. reference_from plan k frame.cursor) (sym c.kind) ∙ no_more
@@ -430,7 +430,7 @@ module _ (plan : Plan) (core : Core) (calls : Calls) (caller : ℕ) (is : IsPlan
     not_there n o e same = no_some (sym absent ∙ ap (finite.get heap) (sym same) ∙ e)
 
     none_in_hand : frame.hand ≡ None
-    none_in_hand = hand_before plan core calls caller is lawful sound good w (Make kind) at
+    none_in_hand = hand_before plan core calls caller is lawful sound w (Make kind) at
 
     has_it : HasObject (plain with_it) x kind
     has_it = record { object = plain_object object; is_there = plain_there with_it x object (get_here names heap x (Some object)); of_kind = refl }

@@ -24,7 +24,7 @@ use Rattle.dl_core.specs.declared.objects.Object.{Object}
 use Rattle.dl_core.specs.declared.stages.Booked.{Booked}
 use Rattle.dl_core.specs.declared.stages.Stage.TheVariants as stages
 use Rattle.dl_core.specs.Codes as codes
-use Rattle.dl_core.specs.Codes.{HasGoodCode, FitsContent}
+use Rattle.dl_core.specs.Codes.{FitsContent}
 use Rattle.dl_core.specs.Heaps.{Heap, put_at, refs, field_of, plain, plain_object, IsHeld}
 use Rattle.dl_core.specs.Plans.{Plan, IsPlan, source_of, steps_of, reference_from}
 use Rattle.dl_core.specs.Frames.{Book, Frame, recounted, raised, lowered, loosened, target_at, target_in_hand, value_in_hand}
@@ -122,7 +122,7 @@ get_set (x ∷ xs) (suc i) (suc j) y v e = elim (get_set xs i j y v e) [
   | inr old ↦ inr old
 ]
 
-module _ (plan : Plan) (core : Core) (calls : Calls) (caller : ℕ) (is : IsPlan plan) (lawful : IsLawful plan core calls) (sound : IsSound plan core calls) (good : HasGoodCode plan) where
+module _ (plan : Plan) (core : Core) (calls : Calls) (caller : ℕ) (is : IsPlan plan) (lawful : IsLawful plan core calls) (sound : IsSound plan core calls) where
   abbrev heap : Heap
   heap = core.world.heap
 
@@ -130,10 +130,10 @@ module _ (plan : Plan) (core : Core) (calls : Calls) (caller : ℕ) (is : IsPlan
   frame = frame_of core.world caller
 
   abbrev Entered : Type 0
-  Entered = Works plan core calls caller is lawful sound good
+  Entered = Works plan core calls caller is lawful sound
 
   going : (w : Entered) → IsGoing plan heap caller w.0.op frame
-  going w = going_now plan core calls caller is lawful sound good w
+  going w = going_now plan core calls caller is lawful sound w
 
   -- a field of a held object gets a value, and the hand has held what stood there
   module _ (w : Entered) (x : Name) (object : Object) (there : finite.get heap x ≡ Some object) (held : object.mark ≡ Held caller) (field : ℕ) (value : Value) (within : field < length object.fields)
@@ -224,7 +224,7 @@ module _ (plan : Plan) (core : Core) (calls : Calls) (caller : ℕ) (is : IsPlan
             ]
 
     writes : (place cursor : ℕ) (seen : Bool) → StandsOpen plan (next place cursor seen) frame.stage → (frame.loose ≡ [] → IsNotClearing (next place cursor seen)) → ((n : Name) (rest : List Name) → frame.loose ≡ n ∷ rest → target_in value ≡ None)
-        → ((n : Name) (rest : List Name) → frame.loose ≡ n ∷ rest → HasCleared plan after (next place cursor seen) n) → Keeps plan core calls caller is lawful sound good w.0.op x (Some written) (loosened (target_in_hand frame) (next place cursor seen))
+        → ((n : Name) (rest : List Name) → frame.loose ≡ n ∷ rest → HasCleared plan after (next place cursor seen) n) → Keeps plan core calls caller is lawful sound w.0.op x (Some written) (loosened (target_in_hand frame) (next place cursor seen))
     writes place cursor seen stands not_now less clearing = record {
       heap_is = written_heap;
       going = loosen plan after caller w.0.op (target_in_hand frame) (next place cursor seen) (record {
@@ -278,7 +278,7 @@ module _ (plan : Plan) (core : Core) (calls : Calls) (caller : ℕ) (is : IsPlan
   none_of_number (Ref t) h e = absurd e
 
   pub writes_code : (w : Entered) (local field : ℕ) (content : Content) (x : Name) → IsAtStep plan frame (Write local field content) → target_at frame local ≡ Some x → (object : Object) → finite.get heap x ≡ Some object → object.mark ≡ Held caller
-      → Keeps plan core calls caller is lawful sound good w.0.op x (Some (record object { fields = slice_set object.fields field (content_of content frame) }))
+      → Keeps plan core calls caller is lawful sound w.0.op x (Some (record object { fields = slice_set object.fields field (content_of content frame) }))
       (loosened (target_in_hand frame) (record frame { hand = None; book = raised (target_in (content_of content frame)) (lowered (target_in_hand frame) frame.book); place = frame.place + 1 }))
   writes_code w local field content x at to object there held =
       writes w x object there held field (content_of content frame) within typed hand_is (frame.place + 1) frame.cursor frame.seen
@@ -310,7 +310,7 @@ module _ (plan : Plan) (core : Core) (calls : Calls) (caller : ℕ) (is : IsPlan
       old_type = subst (λ t. HasType (plain heap) t (field_of object field)) fits.has_field.of_type (its_fields.typed field fits.has_field.field (field_of object field) fits.has_field.is_its_field (slice_get-get_or object.fields field (Ref None) within))
 
       now : HandBefore plan heap caller frame w.0.op (Some (Write local field content))
-      now = hand_before plan core calls caller is lawful sound good w (Write local field content) at
+      now = hand_before plan core calls caller is lawful sound w (Write local field content) at
 
       in_hand : (f : IsFieldInHand heap caller frame local field) → target_in_hand frame ≡ target_in (field_of object field)
       in_hand f =
@@ -331,7 +331,7 @@ module _ (plan : Plan) (core : Core) (calls : Calls) (caller : ℕ) (is : IsPlan
           by : (t : Option Name) → target_at frame other ≡ t → HasType (plain heap) (types.Of target) (Ref t)
           by None e = tt
           by (Some n) e = (
-            local_hidden plan core calls caller is lawful sound good w other target n of (is.checked.fields fits.kind field target has) e,
+            local_hidden plan core calls caller is lawful sound w other target n of (is.checked.fields fits.kind field target has) e,
             w.2.locals.typed other (types.Of target) (Ref (Some n)) of (target_held (slice_get frame.locals other) n e),
           )
 
@@ -350,7 +350,7 @@ module _ (plan : Plan) (core : Core) (calls : Calls) (caller : ℕ) (is : IsPlan
 
   pub writes_first : (w : Entered) (field : ℕ) (x target : Name) (value : Value) (booked : Booked) (given : IsGivenUp frame x booked) → reference_from plan booked.kind frame.cursor ≡ Some field → frame.hand ≡ Some value → target_in value ≡ Some target
       → (object : Object) → finite.get heap x ≡ Some object → object.mark ≡ Held caller
-      → Keeps plan core calls caller is lawful sound good w.0.op x (Some (record object { fields = slice_set object.fields field (Ref None) }))
+      → Keeps plan core calls caller is lawful sound w.0.op x (Some (record object { fields = slice_set object.fields field (Ref None) }))
       (loosened (target_in_hand frame) (record frame { hand = None; book = raised None (lowered (target_in_hand frame) frame.book); cursor = field + 1; seen = false }))
   writes_first w field x target value booked given at hand to object there held =
       writes w x object there held field (Ref None) within typed hand_is frame.place (field + 1) false now.1 (λ e. absurd (not_loose (sym e ∙ given.first))) (λ n rest e. refl)
@@ -365,14 +365,14 @@ module _ (plan : Plan) (core : Core) (calls : Calls) (caller : ℕ) (is : IsPlan
       now : HasCleared plan heap frame x × StandsOpen plan frame frame.stage
       now = subst (HandAt plan heap caller frame w.0.op) given.first w.2.hand
 
-      c : IsCleared plan core calls caller is lawful sound good x booked
-      c = cleared plan core calls caller is lawful sound good w x booked given
+      c : IsCleared plan core calls caller is lawful sound x booked
+      c = cleared plan core calls caller is lawful sound w x booked given
 
       same : c.object ≡ object
       same = same_some (sym c.there ∙ there)
 
       holds : value ≡ field_of object field
-      holds = cleared_hand plan core calls caller is lawful sound good x booked c value field hand at ∙ ap (λ (o : Object). field_of o field) same
+      holds = cleared_hand plan core calls caller is lawful sound x booked c value field hand at ∙ ap (λ (o : Object). field_of o field) same
 
       hand_is : target_in_hand frame ≡ target_in (field_of object field)
       hand_is = hand_of_field frame.hand (field_of object field) (hand ∙ ap Some holds)

@@ -22,7 +22,6 @@ use Rattle.dl_shape.specs.Pool.{allocs_at, moves_of, versions_of, free_at, IsDue
 use Rattle.dl_shape.specs.Replay.{greatest_ticket}
 use Rattle.dl_core.specs.declared.stages.Finished.{Finished}
 use Rattle.dl_core.specs.declared.stages.Stage.TheVariants as stages
-use Rattle.dl_core.specs.Codes.{HasGoodCode}
 use Rattle.dl_core.specs.Heaps.{Heap, IsHeld}
 use Rattle.dl_core.specs.Plans.{Plan, IsPlan, IsCaller, source_of, allocs_of}
 use Rattle.dl_core.specs.Frames.{Frame, IsEntered}
@@ -66,7 +65,7 @@ call_found plan calls (suc place) frame lists c call = by frame.index refl
         let found : call_at calls (suc place) (suc index) ≡ Some frame.call = ap (λ o. option_and_then (λ (cs : List Call). slice_get cs index) o) files ∙ ap (slice_get (get_or calls place [])) (sym at) ∙ call.begun in
         ap (λ o. option_map_or (λ (op : OpDecl). op.allocs) (option_and_then (λ (k : Call). slice_get (source_of plan).ops k.op) o) 0) found
 
-module _ (plan : Plan) (core : Core) (calls : Calls) (caller : ℕ) (is : IsPlan plan) (lawful : IsLawful plan core calls) (sound : IsSound plan core calls) (good : HasGoodCode plan) (tidy : (frame_of core.world caller).loose ≡ [])
+module _ (plan : Plan) (core : Core) (calls : Calls) (caller : ℕ) (is : IsPlan plan) (lawful : IsLawful plan core calls) (sound : IsSound plan core calls) (tidy : (frame_of core.world caller).loose ≡ [])
     (called : (frame_of core.world caller).stage ≡ stages.Called) (few : (frame_of core.world caller).spares < allocs_of plan (frame_of core.world caller).call) (short : core.pool.free < allocs_of plan (frame_of core.world caller).call) where
   abbrev heap : Heap
   heap = core.world.heap
@@ -93,7 +92,7 @@ module _ (plan : Plan) (core : Core) (calls : Calls) (caller : ℕ) (is : IsPlan
   pool' = pool_refused caller r account core.pool
 
   pub one : IsCaller plan caller
-  one = is_caller plan core calls caller is lawful sound good tidy called
+  one = is_caller plan core calls caller is lawful sound tidy called
 
   abbrev world' : Shared
   world' = world plan core calls caller lawful sound one next
@@ -101,11 +100,11 @@ module _ (plan : Plan) (core : Core) (calls : Calls) (caller : ℕ) (is : IsPlan
   abbrev after : Core
   after = record { world = world'; clock = core.clock; pool = pool' }
 
-  waiting : WaitsNow plan core calls caller is lawful sound good
-  waiting = w plan core calls caller is lawful sound good tidy called
+  waiting : WaitsNow plan core calls caller is lawful sound
+  waiting = w plan core calls caller is lawful sound tidy called
 
   no_ticket : frame.ticket ≡ 0
-  no_ticket = zero_ticket plan core calls caller is lawful sound good tidy called
+  no_ticket = zero_ticket plan core calls caller is lawful sound tidy called
 
   none_yet : (frame.spares ≡ 0) × (frame.taken ≡ 0)
   none_yet = by waiting.waiting.places
@@ -118,7 +117,7 @@ module _ (plan : Plan) (core : Core) (calls : Calls) (caller : ℕ) (is : IsPlan
       by (inr e) = e
 
   unreserved : account.reserved_at ≡ 0
-  unreserved = none_reserved plan core calls caller is lawful sound good tidy called none_yet.0
+  unreserved = none_reserved plan core calls caller is lawful sound tidy called none_yet.0
 
   not_held : (n : Name) → IsHeld heap caller n → ⊥
   not_held n h = let t = lawful.who_holds.roots caller n no_ticket h in omega (arith, t.within, none_yet.1)
@@ -127,7 +126,7 @@ module _ (plan : Plan) (core : Core) (calls : Calls) (caller : ℕ) (is : IsPlan
   of_each = for_each plan core calls caller lawful sound one next
 
   inside : caller < length core.pool.accounts
-  inside = within plan core calls caller is lawful sound good tidy called
+  inside = within plan core calls caller is lawful sound tidy called
 
   account_mine : account_of after caller ≡ account'
   account_mine = get_or-set_same core.pool.accounts caller account' no_account inside

@@ -17,7 +17,6 @@ use Rattle.dl_shape.specs.Replay.{greatest_ticket}
 use Rattle.dl_shape.specs.Pool.{moves_of, moves_of_entry, versions_of}
 use Rattle.dl_core.specs.declared.stages.Finished.{Finished}
 use Rattle.dl_core.specs.declared.stages.Stage.TheVariants as stages
-use Rattle.dl_core.specs.Codes.{HasGoodCode}
 use Rattle.dl_core.specs.Heaps.{Heap}
 use Rattle.dl_core.specs.Plans.{Plan, IsPlan, IsCaller, source_of, allocs_of}
 use Rattle.dl_core.specs.Frames.{Frame, IsEntered}
@@ -123,7 +122,7 @@ versions_low plan core calls log c is = λ k d lt.
     let r = All-contains (λ (move : Move). (1 ≤ move.version) × (move.version ≤ core.pool.version)) (moves_in plan core calls) m log.in_range all in
     omega (arith, r.1))
 
-module _ (plan : Plan) (core : Core) (calls : Calls) (caller : ℕ) (is : IsPlan plan) (lawful : IsLawful plan core calls) (sound : IsSound plan core calls) (good : HasGoodCode plan) (tidy : (frame_of core.world caller).loose ≡ [])
+module _ (plan : Plan) (core : Core) (calls : Calls) (caller : ℕ) (is : IsPlan plan) (lawful : IsLawful plan core calls) (sound : IsSound plan core calls) (tidy : (frame_of core.world caller).loose ≡ [])
     (called : (frame_of core.world caller).stage ≡ stages.Called) where
   abbrev heap : Heap
   heap = core.world.heap
@@ -134,8 +133,8 @@ module _ (plan : Plan) (core : Core) (calls : Calls) (caller : ℕ) (is : IsPlan
   abbrev account : Account
   account = account_of core caller
 
-  pub w : WaitsNow plan core calls caller is lawful sound good
-  w = waits_called plan core calls caller is lawful sound good called
+  pub w : WaitsNow plan core calls caller is lawful sound
+  w = waits_called plan core calls caller is lawful sound called
 
   pub zero_ticket : frame.ticket ≡ 0
   zero_ticket = ap (λ (f : Frame). f.ticket) w.waiting.is

@@ -2,7 +2,6 @@
 use Rattle.std.proofs.Common.{◌≡◌, ◌<◌, ◌≤◌, ℕ, sym, ap, subst, ◌∙◌, []}
 use Rattle.dl_ir.specs.declared.answers.End.{End}
 use Rattle.dl_core.specs.declared.stages.Stage.TheVariants as stages
-use Rattle.dl_core.specs.Codes.{HasGoodCode}
 use Rattle.dl_core.specs.Plans.{Plan, IsPlan, allocs_of}
 use Rattle.dl_core.specs.Frames.{Frame}
 use Rattle.dl_core.specs.declared.dues.Due.{Due}
@@ -14,7 +13,6 @@ use Rattle.dl_core.specs.Laws.{IsKept, StepsKeep}
 use Rattle.dl_core.proofs.Events.{works_ended}
 use Rattle.dl_core.proofs.EnterKeeps.{kept}
 use Rattle.dl_core.proofs.FinishKeeps.{finish_kept}
-use Rattle.dl_core.proofs.GoodCode.{plans_have_good_code}
 use Rattle.dl_core.proofs.Machine as machine
 use Rattle.dl_core.proofs.Machine.{StepIs, step_is}
 use Rattle.dl_core.proofs.RefuseKeeps.{refuse_kept}
@@ -24,9 +22,6 @@ use Rattle.dl_core.proofs.Why as why
 use Rattle.dl_core.proofs.Why.{Why}
 
 module _ (plan : Plan) (core : Core) (calls : Calls) (caller : ℕ) (is : IsPlan plan) (all : IsKept plan core calls) where
-  good : HasGoodCode plan
-  good = plans_have_good_code plan is
-
   same_need : {a b : ℕ} → Reserves a ≡ Reserves b → a ≡ b
   same_need e = cc
 
@@ -70,7 +65,7 @@ module _ (plan : Plan) (core : Core) (calls : Calls) (caller : ℕ) (is : IsPlan
       by d why.idles f = absurd (cc)
       by d (why.reserves tidy stage few) f = absurd (cc)
       by d (why.takes_root number tidy stage next) f = absurd (cc)
-      by d (why.enters tidy stage next) f = kept plan core calls caller is all.lawful all.sound good e tidy stage next
+      by d (why.enters tidy stage next) f = kept plan core calls caller is all.lawful all.sound e tidy stage next
       by d (why.reads_code local field n at to) f = absurd (cc)
       by d (why.reads_first field n booked given at hand) f = absurd (cc)
       by d (why.writes_code local field content n at to) f = absurd (cc)
@@ -101,20 +96,20 @@ module _ (plan : Plan) (core : Core) (calls : Calls) (caller : ℕ) (is : IsPlan
       by d (why.gives_up n booked given none) f = absurd (cc)
       by d (why.seals end' entry rest tidy ended null entries) f = absurd (cc)
       by d (why.makes kind at few) f = absurd (cc)
-      by d (why.finishes end' tidy ended null none) f = finish_kept plan core calls caller is all.lawful all.sound good end (works_ended plan core calls caller is all.lawful all.sound good end' ended) none
+      by d (why.finishes end' tidy ended null none) f = finish_kept plan core calls caller is all.lawful all.sound end (works_ended plan core calls caller is all.lawful all.sound end' ended) none
 
   by_step : (after : Core) → StepIs plan core caller after → IsKept plan after calls
   by_step after (machine.reserves_now need e room is') =
       let a = asks need e in
       subst (λ c. IsKept plan c calls) (ap (λ n. (reserves core caller frame n).0) a.is_need ∙ sym is')
-      (reserve_kept plan core calls caller is all.lawful all.sound good a.tidy a.called a.few (subst (λ n. n ≤ core.pool.free) (sym a.is_need) room))
+      (reserve_kept plan core calls caller is all.lawful all.sound a.tidy a.called a.few (subst (λ n. n ≤ core.pool.free) (sym a.is_need) room))
   by_step after (machine.refuses_now need e short is') =
       let a = asks need e in
       subst (λ c. IsKept plan c calls) (ap (λ n. (refuses core caller frame n).0) a.is_need ∙ sym is')
-      (refuse_kept plan core calls caller is all.lawful all.sound good a.tidy a.called a.few (subst (λ n. core.pool.free < n) (sym a.is_need) short))
+      (refuse_kept plan core calls caller is all.lawful all.sound a.tidy a.called a.few (subst (λ n. core.pool.free < n) (sym a.is_need) short))
   by_step after (machine.enters_now e is') = subst (λ c. IsKept plan c calls) (sym is') (entering e)
   by_step after (machine.finishes_now end e is') = subst (λ c. IsKept plan c calls) (sym is') (finishing end e)
-  by_step after (machine.touches_one name at outcome acts is') = subst (λ c. IsKept plan c calls) (sym is') (touch_keeps plan core calls caller is all.lawful all.sound good name at outcome acts)
+  by_step after (machine.touches_one name at outcome acts is') = subst (λ c. IsKept plan c calls) (sym is') (touch_keeps plan core calls caller is all.lawful all.sound name at outcome acts)
 
 -- every step keeps all that holds
 pub steps_keep : StepsKeep

@@ -20,7 +20,6 @@ use Rattle.dl_core.specs.declared.objects.Object.{Object}
 use Rattle.dl_core.specs.declared.stages.Finished.{Finished}
 use Rattle.dl_core.specs.declared.stages.Stage.{Stage}
 use Rattle.dl_core.specs.declared.stages.Stage.TheVariants as stages
-use Rattle.dl_core.specs.Codes.{HasGoodCode}
 use Rattle.dl_core.specs.Heaps.{Heap, put_at, refs, is_sealed, IsHeld}
 use Rattle.dl_core.specs.Plans.{Plan, IsPlan, IsCaller, source_of, op_of, allocs_of, roots_of}
 use Rattle.dl_core.specs.Frames.{Frame, IsEntered, idle, with_booked}
@@ -93,7 +92,7 @@ below_clock plan core calls sound caller c entered =
 module _ (plan : Plan) (core : Core) (calls : Calls) (sound : IsSound plan core calls) (caller : ℕ) (name : Name) (bound : ticket_in core.world caller ≤ core.clock) where
   row_names : (o o' : Option Object) → May core.world.heap (ticket_in core.world) caller name o o' → finite.get core.world.heap name ≡ o → name.ticket ≤ core.clock
   row_names o o' (reads {object} m) e = sound.tickets.names name object e
-  row_names o o' (sees {object} t m) e = sound.tickets.names name object e
+  row_names o o' (sees {object} t source m no_root holder link) e = sound.tickets.names name object e
   row_names o o' (writes {object} f v m a b) e = sound.tickets.names name object e
   row_names o o' (takes {object} from m a b c) e = sound.tickets.names name object e
   row_names o o' (takes_root {object} m a b) e = sound.tickets.names name object e
@@ -104,7 +103,7 @@ module _ (plan : Plan) (core : Core) (calls : Calls) (sound : IsSound plan core 
 
   row_seals : (o o' : Option Object) → May core.world.heap (ticket_in core.world) caller name o o' → finite.get core.world.heap name ≡ o → (b : Object) (t : ℕ) → o' ≡ Some b → b.mark ≡ Sealed t → (t ≤ core.clock) × IsHidden name
   row_seals o o' (reads {object} m) e b t f s = absurd (held_sealed (sym m ∙ ap (λ (w : Object). w.mark) (same_some f) ∙ s))
-  row_seals o o' (sees {object} u m) e b t f s = sound.tickets.seals name object t e (ap (λ (w : Object). w.mark) (same_some f) ∙ s)
+  row_seals o o' (sees {object} u source m no_root holder link) e b t f s = sound.tickets.seals name object t e (ap (λ (w : Object). w.mark) (same_some f) ∙ s)
   row_seals o o' (writes {object} fd v m x y) e b t f s = absurd (held_sealed (sym m ∙ ap (λ (w : Object). w.mark) (same_some f) ∙ s))
   row_seals o o' (takes {object} from m x y z) e b t f s = absurd (held_sealed (ap (λ (w : Object). w.mark) (same_some f) ∙ s))
   row_seals o o' (takes_root {object} m x y) e b t f s = absurd (held_sealed (ap (λ (w : Object). w.mark) (same_some f) ∙ s))
@@ -115,7 +114,7 @@ module _ (plan : Plan) (core : Core) (calls : Calls) (sound : IsSound plan core 
 
   row_root : IsEntered (frame_of core.world caller) → (o o' : Option Object) → May core.world.heap (ticket_in core.world) caller name o o' → finite.get core.world.heap name ≡ o → (b : Object) → o' ≡ Some b → b.mark ≡ Held caller → name.ticket ≡ 0 → IsHeld core.world.heap caller name
   row_root entered o o' (reads {object} m) e b f s z = record { object = object; there = e; held = m }
-  row_root entered o o' (sees {object} u m) e b f s z = absurd (held_sealed (sym s ∙ ap (λ (w : Object). w.mark) (sym (same_some f)) ∙ m))
+  row_root entered o o' (sees {object} u source m no_root holder link) e b f s z = absurd (held_sealed (sym s ∙ ap (λ (w : Object). w.mark) (sym (same_some f)) ∙ m))
   row_root entered o o' (writes {object} fd v m x y) e b f s z = record { object = object; there = e; held = m }
   row_root entered o o' (takes {object} from m hidden x y) e b f s z = absurd (omega (arith, hidden, z))
   row_root entered o o' (takes_root {object} m x waiting) e b f s z = absurd (omega (arith, entered, waiting))
@@ -128,7 +127,7 @@ module _ (plan : Plan) (core : Core) (calls : Calls) (sound : IsSound plan core 
 pub called_ready : (plan : Plan) (frame : Frame) → frame.loose ≡ [] → frame.stage ≡ stages.Called → IsReady plan frame
 called_ready plan frame tidy called = ap (λ l. step_in (next_after plan frame l)) tidy ∙ ap (λ s. step_in (next_stage plan frame s)) called
 
-module _ (plan : Plan) (core : Core) (calls : Calls) (caller : ℕ) (is : IsPlan plan) (lawful : IsLawful plan core calls) (sound : IsSound plan core calls) (good : HasGoodCode plan) where
+module _ (plan : Plan) (core : Core) (calls : Calls) (caller : ℕ) (is : IsPlan plan) (lawful : IsLawful plan core calls) (sound : IsSound plan core calls) where
   abbrev heap : Heap
   heap = core.world.heap
 
@@ -141,10 +140,10 @@ module _ (plan : Plan) (core : Core) (calls : Calls) (caller : ℕ) (is : IsPlan
 
   module _ (name : Name) (at : aim (due plan frame) ≡ Some name) (outcome : Acted) (acts : act plan caller frame (due plan frame) (finite.get heap name) ≡ Some outcome) where
     row : May heap (ticket_in core.world) caller name (finite.get heap name) outcome.1
-    row = events_may plan core calls caller is lawful sound good name at outcome acts
+    row = events_may plan core calls caller is lawful sound name at outcome acts
 
     -- by a caller that has entered
-    own_entered : (w : Works plan core calls caller is lawful sound good) → IsOwnKept plan core calls caller name outcome.1 outcome.0
+    own_entered : (w : Works plan core calls caller is lawful sound) → IsOwnKept plan core calls caller name outcome.1 outcome.0
     own_entered w = record {
       heap_is = k.heap_is;
       public = record { call = k.same.0; index = k.same.1; ticket = k.same.2; finished = k.same.3 };
@@ -152,7 +151,7 @@ module _ (plan : Plan) (core : Core) (calls : Calls) (caller : ℕ) (is : IsPlan
       enough = k.enough;
       book = k.going.book;
       stands = works call entered k.going.works;
-      ready = (events_own plan core calls caller is lawful sound good w name at outcome acts).1;
+      ready = (events_own plan core calls caller is lawful sound w name at outcome acts).1;
       was_busy = not_idle frame.stage w.2.stage;
       busy = not_idle outcome.0.stage k.going.works.stage;
       spares = λ z. absurd (omega (arith, z, entered));
@@ -166,8 +165,8 @@ module _ (plan : Plan) (core : Core) (calls : Calls) (caller : ℕ) (is : IsPlan
       seals = row_seals plan core calls sound caller name bound (finite.get heap name) outcome.1 row refl;
     }
       where
-        k : Keeps plan core calls caller is lawful sound good w.0.op name outcome.1 outcome.0
-        k = (events_own plan core calls caller is lawful sound good w name at outcome acts).0
+        k : Keeps plan core calls caller is lawful sound w.0.op name outcome.1 outcome.0
+        k = (events_own plan core calls caller is lawful sound w name at outcome acts).0
 
         entered : IsEntered outcome.0
         entered = omega (arith, w.1, k.same.2)
@@ -192,10 +191,10 @@ module _ (plan : Plan) (core : Core) (calls : Calls) (caller : ℕ) (is : IsPlan
               (sound.each caller).roots n (subst (IsHeld heap caller) (sym l.0) was) z
         ]
 
-    kept_entered : (w : Works plan core calls caller is lawful sound good) → IsKept plan (acted core caller name outcome) calls
+    kept_entered : (w : Works plan core calls caller is lawful sound) → IsKept plan (acted core caller name outcome) calls
     kept_entered w =
         touched_kept plan core calls caller lawful sound (busy_caller plan core calls sound caller (not_idle frame.stage w.2.stage)) name outcome.1 outcome.0 row (own_entered w)
-        (counted_kept plan core calls caller is lawful sound good name at outcome acts) (apart_kept plan core calls caller is lawful sound good name at outcome acts)
+        (counted_kept plan core calls caller is lawful sound name at outcome acts) (apart_kept plan core calls caller is lawful sound name at outcome acts)
 
   -- ---- a root
 
@@ -319,8 +318,8 @@ module _ (plan : Plan) (core : Core) (calls : Calls) (caller : ℕ) (is : IsPlan
       all : IsOwnKept plan core calls caller (root number) outcome.1 outcome.0 → IsKept plan (acted core caller (root number) outcome) calls
       all own =
           touched_kept plan core calls caller lawful sound (busy_caller plan core calls sound caller not_idle_now) (root number) outcome.1 outcome.0
-          (events_may plan core calls caller is lawful sound good (root number) at outcome acts) own
-          (counted_kept plan core calls caller is lawful sound good (root number) at outcome acts) (apart_kept plan core calls caller is lawful sound good (root number) at outcome acts)
+          (events_may plan core calls caller is lawful sound (root number) at outcome acts) own
+          (counted_kept plan core calls caller is lawful sound (root number) at outcome acts) (apart_kept plan core calls caller is lawful sound (root number) at outcome acts)
 
       by_mark : (object : Object) → finite.get heap (root number) ≡ Some object → (mark : Mark) → object.mark ≡ mark → take_root caller number frame object mark ≡ Some outcome → IsKept plan (acted core caller (root number) outcome) calls
       by_mark object there Free m e = all (subst (λ (o : Acted). IsOwnKept plan core calls caller (root number) o.1 o.0) (same_some e) (own_root number due_is tidy called next_is object there m))
@@ -335,7 +334,7 @@ module _ (plan : Plan) (core : Core) (calls : Calls) (caller : ℕ) (is : IsPlan
   pub touch_keeps : (name : Name) → aim (due plan frame) ≡ Some name → (outcome : Acted) → act plan caller frame (due plan frame) (finite.get heap name) ≡ Some outcome → IsKept plan (acted core caller name outcome) calls
   touch_keeps name at outcome acts = by (due plan frame) refl (why.why plan frame)
     where
-      working : (w : Works plan core calls caller is lawful sound good) → IsKept plan (acted core caller name outcome) calls
+      working : (w : Works plan core calls caller is lawful sound) → IsKept plan (acted core caller name outcome) calls
       working w = kept_entered name at outcome acts w
 
       none_aimed : (d : Due) → due plan frame ≡ d → aim d ≡ None → ⊥
@@ -348,14 +347,14 @@ module _ (plan : Plan) (core : Core) (calls : Calls) (caller : ℕ) (is : IsPlan
           let same : root number ≡ name = same_some (ap aim (sym e) ∙ at) in
           subst (λ n. act plan caller frame (due plan frame) (finite.get heap n) ≡ Some outcome → IsKept plan (acted core caller n outcome) calls) same (kept_root number e tidy called next_is outcome) acts
       by d e (why.enters tidy stage next_is) = absurd (none_aimed d e refl)
-      by d e (why.reads_code local field n p to) = working (works_running plan core calls caller is lawful sound good p.running)
-      by d e (why.reads_first field n booked given p hand) = working (works_loose plan core calls caller is lawful sound good n given.rest given.first)
-      by d e (why.writes_code local field content n p to) = working (works_running plan core calls caller is lawful sound good p.running)
-      by d e (why.writes_first field n target value booked given p hand to may) = working (works_loose plan core calls caller is lawful sound good n given.rest given.first)
-      by d e (why.takes_code n p to other) = working (works_running plan core calls caller is lawful sound good p.running)
-      by d e (why.takes_first field n target value booked given p hand to other) = working (works_loose plan core calls caller is lawful sound good n given.rest given.first)
-      by d e (why.lets_go n rest first what) = working (works_loose plan core calls caller is lawful sound good n rest first)
-      by d e (why.gives_up n booked given none) = working (works_loose plan core calls caller is lawful sound good n given.rest given.first)
-      by d e (why.seals end entry rest tidy ended null entries) = working (works_ended plan core calls caller is lawful sound good end ended)
-      by d e (why.makes kind p few) = working (works_running plan core calls caller is lawful sound good p.running)
+      by d e (why.reads_code local field n p to) = working (works_running plan core calls caller is lawful sound p.running)
+      by d e (why.reads_first field n booked given p hand) = working (works_loose plan core calls caller is lawful sound n given.rest given.first)
+      by d e (why.writes_code local field content n p to) = working (works_running plan core calls caller is lawful sound p.running)
+      by d e (why.writes_first field n target value booked given p hand to may) = working (works_loose plan core calls caller is lawful sound n given.rest given.first)
+      by d e (why.takes_code n p to other) = working (works_running plan core calls caller is lawful sound p.running)
+      by d e (why.takes_first field n target value booked given p hand to other) = working (works_loose plan core calls caller is lawful sound n given.rest given.first)
+      by d e (why.lets_go n rest first what) = working (works_loose plan core calls caller is lawful sound n rest first)
+      by d e (why.gives_up n booked given none) = working (works_loose plan core calls caller is lawful sound n given.rest given.first)
+      by d e (why.seals end entry rest tidy ended null entries) = working (works_ended plan core calls caller is lawful sound end ended)
+      by d e (why.makes kind p few) = working (works_running plan core calls caller is lawful sound p.running)
       by d e (why.finishes end tidy stage null none) = absurd (none_aimed d e refl)

@@ -26,8 +26,9 @@ MayLose heap caller (Ref (Some name)) = IsHeld heap caller name ⊎ IsSealed hea
 pub data May (heap : Heap) (tickets : ℕ → ℕ) (caller : ℕ) (name : Name) : Option Object → Option Object → Type 0 where
   -- a read
   reads : {object : Object} → object.mark ≡ marks.Held caller → May heap tickets caller name (Some object) (Some object)
-  -- a look at what is sealed
-  sees : {object : Object} (ticket : ℕ) → object.mark ≡ marks.Sealed ticket → May heap tickets caller name (Some object) (Some object)
+  -- a look at what is sealed, to which a field of a held object refers
+  sees : {object : Object} (ticket : ℕ) (from : Name) → object.mark ≡ marks.Sealed ticket → IsHidden name → IsHeld heap caller from → Links heap from name
+      → May heap tickets caller name (Some object) (Some object)
   -- a write
   writes : {object : Object} (field : ℕ) (value : Value) → object.mark ≡ marks.Held caller → MayLose heap caller (field_of object field) → MayWrite heap caller value
       → May heap tickets caller name (Some object) (Some (record object { fields = slice_set object.fields field value }))
@@ -37,7 +38,7 @@ pub data May (heap : Heap) (tickets : ℕ → ℕ) (caller : ℕ) (name : Name) 
   -- the taking of a root, before the caller enters
   takes_root : {object : Object} → object.mark ≡ marks.Free → name.ticket ≡ 0 → tickets caller ≡ 0
       → May heap tickets caller name (Some object) (Some (record object { mark = marks.Held caller }))
-  -- the letting go of a root, or of an object to which one field refers
+  -- the letting go of a root, or of an object to which one field refers. No local refers to it, as locals refer to what is held
   lets_go : {object : Object} → object.mark ≡ marks.Held caller → (IsHidden name → refs heap name ≡ 1)
       → May heap tickets caller name (Some object) (Some (record object { mark = marks.Free }))
   -- the sealing of an object to which several fields refer

@@ -1,38 +1,30 @@
--- What is to be proved of the machine.
-use Rattle.std.specs.Prelude.{◌≡◌, ◌≢◌, ◌↔◌, ◌+◌, ◌<◌, ◌⊎◌, ℕ, Option, Some, List, [], ◌∷◌, ◌++◌, AllPairs, Contains, length, map}
-use Rattle.std.specs.List.{flat_map}
+-- What is proved of the machine.
+use Rattle.std.specs.Prelude.{◌≡◌, ◌≢◌, ◌↔◌, ◌+◌, ◌<◌, ◌⊎◌, ℕ, Option, Some, List, [], ◌∷◌, ◌++◌, length}
 use Rattle.std.specs.FinMap as finite
 use Rattle.dl_ir.specs.declared.answers.End.{End}
-use Rattle.dl_ir.specs.declared.answers.Entry.{Entry}
 use Rattle.dl_ir.specs.declared.calls.Call.{Call}
 use Rattle.dl_ir.specs.declared.modules.OpDecl.{OpDecl}
 use Rattle.dl_ir.specs.declared.names.Name.{Name}
 use Rattle.dl_ir.specs.CallForms.{IsCallOf}
 use Rattle.dl_ir.specs.Heap.{IsHeapOf, IsHidden, hidden_count}
-use Rattle.dl_shape.specs.Closed.{IsForestClosed}
 use Rattle.dl_shape.specs.Operation.{operated, body_outcome}
-use Rattle.dl_shape.specs.Pool.{ReturnsFit}
-use Rattle.dl_shape.specs.Replay.{replayed, IsLegal}
-use Rattle.dl_shape.specs.Rising.{in_rising}
-use Rattle.dl_core.specs.declared.answers.Event.TheVariants as events
 use Rattle.dl_core.specs.declared.answers.Progress.{Progress}
-use Rattle.dl_core.specs.declared.answers.Progress.TheVariants as progress
 use Rattle.dl_core.specs.declared.objects.Mark.TheVariants as marks
 use Rattle.dl_core.specs.declared.objects.Object.{Object}
 use Rattle.dl_core.specs.declared.stages.Finished.{Finished}
 use Rattle.dl_core.specs.declared.stages.Stage.TheVariants as stages
 use Rattle.dl_core.specs.Heaps.{refs, plain, IsHeld}
 use Rattle.dl_core.specs.Plans.{Plan, IsPlan, source_of, op_of, allocs_of, roots_of}
-use Rattle.dl_core.specs.Frames.{Book, Frame, IsEntered, at_rest, waiting}
+use Rattle.dl_core.specs.Frames.{Book, Frame, at_rest, waiting}
 use Rattle.dl_core.specs.LocalSteps.{due}
 use Rattle.dl_core.specs.Events.{entered, act, aim}
-use Rattle.dl_core.specs.Steps.{step_by, Alone, InTurn}
-use Rattle.dl_core.specs.Core.{Core, Shared, Account, fresh, frame_of, account_of, rules_of, entry_of, step, stepped, with_call}
-use Rattle.dl_core.specs.Reached.{Calls, IsReached, MayBegin, calls_of, no_calls, with_begun}
-use Rattle.dl_core.specs.Reach.{WaitsFor, Waits, Dominates, ticket_in}
+use Rattle.dl_core.specs.Steps.{step_by, Alone}
+use Rattle.dl_core.specs.Core.{Core, Shared, fresh, frame_of, rules_of, step, with_call}
+use Rattle.dl_core.specs.Reached.{Calls, IsReached, MayBegin, no_calls, with_begun}
+use Rattle.dl_core.specs.Reach.{Dominates, ticket_in}
 use Rattle.dl_core.specs.Changes.{May}
 use Rattle.dl_core.specs.Lawful.{IsLawful, IsTakenRoot}
-use Rattle.dl_core.specs.Sound.{IsSound, HasBook, numbers_from}
+use Rattle.dl_core.specs.Sound.{IsSound, HasBook}
 
 -- a state is lawful and sound
 pub record IsKept (plan : Plan) (core : Core) (calls : Calls) : Type 0 where
@@ -121,68 +113,3 @@ LoneRunsEnd = (plan : Plan) (core : Core) (calls : Calls) (caller ticket : ℕ) 
 abbrev pub LoneRunsAreSerial : Type 0
 LoneRunsAreSerial = (plan : Plan) (core : Core) (calls : Calls) (end : Shared) (caller ticket : ℕ) (call : Call) → IsPlan plan → IsKept plan core calls → HasJustEntered plan core.world caller ticket call
     → Alone (rules_of plan) caller core.world end → IsOutcome plan core.world end caller ticket call
-
--- the callers that have entered, in rising tickets
-pub record AreRunning (world : Shared) (callers : List ℕ) : Type 0 where
-  pub all : (caller : ℕ) → IsEntered (frame_of world caller) ↔ Contains callers caller
-  pub rising : AllPairs (λ (earlier later : ℕ). ticket_in world earlier < ticket_in world later) callers
-
--- the running operations go on alone, in rising tickets, until each is finished
-pub record Rests (plan : Plan) (world end : Shared) : Type 0 where
-  pub callers : List ℕ
-  pub are : AreRunning world callers
-  pub runs : InTurn (rules_of plan) callers world end
-
--- the operations that callers have finished, versions left aside
-abbrev pub finished_entries : Shared → ℕ → List Entry
-finished_entries world caller = map (λ kept. entry_of caller (kept, record { reserved_at = 0; returned_at = 0 })) (frame_of world caller).finished
-
--- the finished operations of all callers, in rising tickets
-abbrev pub history_of : Shared → List Entry
-history_of world = in_rising (λ (entry : Entry). entry.ticket) (flat_map (finished_entries world) (numbers_from 1 (length world.frames)))
-
--- a state is serial: its running operations come to an end, and what they leave is the replay of all that entered, in rising tickets
-pub record IsSerial (plan : Plan) (core : Core) (calls : Calls) : Type 0 where
-  pub end : Shared
-  pub rests : Rests plan core.world end
-  pub heap : plain end.heap ≡ replayed (source_of plan) calls plan.heap (history_of end)
-  pub legal : IsLegal (source_of plan) calls plan.heap (history_of end)
-  pub returns : ReturnsFit (source_of plan) calls plan.heap (history_of end)
-
--- every state to which a run comes is serial
-abbrev pub SerialAlways : Type 0
-SerialAlways = (plan : Plan) (core : Core) (calls : Calls) → IsPlan plan → IsReached plan core calls → IsSerial plan core calls
-
--- no callers wait for one another in a circle
-abbrev pub NoCycle : Type 0
-NoCycle = (plan : Plan) (core : Core) (calls : Calls) (caller : ℕ) → IsPlan plan → IsReached plan core calls → ¬ (Waits plan core.world caller caller)
-
--- who has entered waits only for who entered before
-abbrev pub WaitsForOlder : Type 0
-WaitsForOlder = (plan : Plan) (core : Core) (calls : Calls) (caller other : ℕ) → IsPlan plan → IsReached plan core calls → IsEntered (frame_of core.world caller)
-    → WaitsFor plan core.world caller other → IsEntered (frame_of core.world other) × (ticket_in core.world other < ticket_in core.world caller)
-
--- who has not entered waits only for a root above all that it holds
-abbrev pub WaitsForHigherRoots : Type 0
-WaitsForHigherRoots = (plan : Plan) (core : Core) (calls : Calls) (caller other : ℕ) (held : Name) → IsPlan plan → IsReached plan core calls → (frame_of core.world caller).ticket ≡ 0
-    → (waits : WaitsFor plan core.world caller other) → IsHeld core.world.heap caller held → (waits.name.ticket ≡ 0) × (held.ticket ≡ 0) × (held.index < waits.name.index)
-
--- where every serial run ends each operation in a forest, nothing is sealed or seen to be sealed
-abbrev pub NoSeal : Type 0
-NoSeal = (plan : Plan) (core after : Core) (calls : Calls) (caller : ℕ) (name : Name) → IsPlan plan → IsForestClosed (source_of plan) plan.heap → IsReached plan core calls
-    → (step plan core caller ≢ Some (after, progress.Moved (events.Seal name))) × (step plan core caller ≢ Some (after, progress.Moved (events.SeeSealed name)))
-
--- giving a caller a step makes this of the state, and answers this
-abbrev pub Advances : Plan → ℕ → Core → Core → Progress → Type 0
-Advances plan caller before after answer = stepped plan before caller ≡ (after, answer)
-
--- on some state to which a run comes, in which the caller has this frame, this account and these calls, its step gives this answer
-pub record Happens (plan : Plan) (caller : ℕ) (frame : Frame) (account : Account) (begun : List Call) (answer : Progress) : Type 0 where
-  pub core : Core
-  pub calls : Calls
-  pub reached : IsReached plan core calls
-  pub has_frame : frame_of core.world caller ≡ frame
-  pub has_account : account_of core caller ≡ account
-  pub has_calls : calls_of calls caller ≡ begun
-  pub after : Core
-  pub steps : step plan core caller ≡ Some (after, answer)

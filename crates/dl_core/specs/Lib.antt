@@ -4,6 +4,7 @@ pub mod Frames
 pub mod Rooms
 pub mod Shown
 pub mod GoingOn
+pub mod Left
 pub mod LocalSteps
 pub mod Codes
 pub mod Events

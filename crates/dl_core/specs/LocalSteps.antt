@@ -1,6 +1,5 @@
 -- What a caller does next: a local step, which changes its own frame alone, or an event.
-use Rattle.std.specs.Prelude.{◌≡◌, ◌+◌, ◌-◌, ◌*◌, ◌<◌, ◌==◌, ◌&&◌, ◌||◌, ◌⊎◌, ℕ, suc, ℤ, pos, Bool, true, false, Option, Some, None, Ok, Err, List, [], ◌∷◌, drop, length, slice_get, count_by, is_some, nat_le, nat_lt, if◌then◌else◌}
-use Rattle.std.specs.Option.{option_map}
+use Rattle.std.specs.Prelude.{◌≡◌, ◌+◌, ◌-◌, ◌==◌, ◌&&◌, ◌||◌, ℕ, ℤ, pos, Bool, true, false, Option, Some, None, Ok, Err, List, [], ◌∷◌, slice_get, nat_le, nat_lt, if◌then◌else◌}
 use Rattle.std.specs.FinMap as finite
 use Rattle.dl_ir.specs.declared.answers.End.{End}
 use Rattle.dl_ir.specs.declared.answers.End.TheVariants as ends
@@ -15,7 +14,6 @@ use Rattle.dl_instr.specs.declared.steps.Step.TheVariants.{Read, Want, Set, Drop
 use Rattle.dl_instr.specs.declared.steps.Origin.TheVariants as origins
 use Rattle.dl_instr.specs.declared.steps.Content.{Content}
 use Rattle.dl_instr.specs.declared.steps.Content.TheVariants as contents
-use Rattle.dl_instr.specs.Jumps.{jump_of}
 use Rattle.dl_core.specs.declared.stages.Stage.{Stage}
 use Rattle.dl_core.specs.declared.stages.Stage.TheVariants as stages
 use Rattle.dl_core.specs.declared.stages.Booked.{Booked}
@@ -24,6 +22,7 @@ use Rattle.dl_core.specs.declared.dues.Due.TheVariants.{Nothing, Reserves, Takes
 use Rattle.dl_core.specs.Plans.{Plan, allocs_of, steps_of, roots_of, reference_from}
 use Rattle.dl_core.specs.Frames.{Frame, has_booked, target_at, target_in_hand, value_in_hand, assigned, advanced, gone_to, with_hand, ended}
 use Rattle.dl_core.specs.GoingOn.{go_on}
+pub use Rattle.dl_core.specs.Left.{drops_before_turn, GoesBackToTurns, distance_by, distance, code_left, refers, stage_left, hand_left, steps_left}
 
 -- what comes next: a local step with the frame that it leaves, or an event
 pub data Next : Type 0 where
@@ -159,48 +158,8 @@ local_step plan frame = step_in (next plan frame)
 abbrev pub due : Plan → Frame → Due
 due plan frame = due_in (next plan frame)
 
--- the number of steps that drop locals before a loop's test, where these are the first of the steps
-abbrev pub drops_before_turn : List Step → Option ℕ
-drops_before_turn [] = None
-drops_before_turn (Drop local ∷ rest) = option_map suc (drops_before_turn rest)
-drops_before_turn (Test c true place ∷ rest) = Some 0
-drops_before_turn (step ∷ rest) = None
-
--- no step goes back but to a loop's test, or to drops before one
-abbrev pub GoesBackToTurns : List Step → Type 0
-GoesBackToTurns steps = (at place : ℕ) (step : Step) → slice_get steps at ≡ Some step → jump_of step ≡ Some place → (at < place) ⊎ ((count : ℕ) × (drops_before_turn (drop place steps) ≡ Some count))
-
--- how far it is from a place to the next loop's test, or to the end of the code
-abbrev pub distance_by : ℕ → ℕ → Option ℕ → ℕ
-distance_by len place None = (len - place) + (len + 1)
-distance_by len place (Some count) = count
-
-abbrev pub distance : List Step → ℕ → ℕ
-distance steps place = distance_by (length steps) place (drops_before_turn (drop place steps))
-
--- what is left of the code: whole rounds for the turns that are left, and the rest of this one
-abbrev pub code_left : List Step → ℕ → ℕ → ℕ
-code_left steps turns place = turns * (2 * length steps + 2) + distance steps place
-
--- a value refers to an object
-abbrev pub refers : Value → Bool
-refers value = is_some (target_in value)
-
-abbrev pub stage_left : Plan → Frame → Stage → ℕ
-stage_left plan frame stages.Idle = 0
-stage_left plan frame stages.Called = 0
-stage_left plan frame stages.Running = 1 + length frame.locals + code_left (steps_of plan frame.call) frame.turns frame.place
-stage_left plan frame (stages.Ended end) = count_by refers frame.locals
-
-abbrev pub hand_left : Option Value → ℕ
-hand_left None = 0
-hand_left (Some value) = 1
-
--- a number that falls with each local step
-abbrev pub steps_left : Plan → Frame → ℕ
-steps_left plan frame = 2 * stage_left plan frame frame.stage + hand_left frame.hand
-
--- the frame to which local steps lead, at which an event comes next
+-- the frame to which local steps lead, at which an event comes next. Any number of steps that suffices gives the same frame; that this
+-- one does is a law, `IsReady` of every frame of a state to which a run comes
 abbrev pub ready : Plan → Frame → Frame
 ready plan frame = go_on (local_step plan) (steps_left plan frame) frame
 

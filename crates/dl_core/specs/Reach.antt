@@ -10,7 +10,7 @@ use Rattle.dl_core.specs.Heaps.{Heap, refs_in, IsHeld}
 use Rattle.dl_core.specs.Plans.{Plan}
 use Rattle.dl_core.specs.Frames.{Frame, IsEntered}
 use Rattle.dl_core.specs.declared.dues.Due.{Due}
-use Rattle.dl_core.specs.declared.dues.Due.TheVariants.{TakesRoot, Reads, Writes, Takes, LetsGo, GivesUp}
+use Rattle.dl_core.specs.declared.dues.Due.TheVariants.{TakesRoot, Reads, Writes, Takes, LetsGo, GivesUp, Seals}
 use Rattle.dl_core.specs.LocalSteps.{due}
 use Rattle.dl_core.specs.Core.{Shared, frame_of}
 
@@ -74,7 +74,7 @@ pub record IsFree (heap : Heap) (name : Name) : Type 0 where
   pub free : object.mark ≡ marks.Free
 
 -- the rules by which an event keeps to what the caller holds. A caller reads and writes fields only of objects that it holds. It takes
--- its roots in rising order, each above all that it holds, and before it enters; it lets go and gives up only when it has entered. It
+-- its roots in rising order, each above all that it holds, and before it enters; it lets go, gives up and seals only when it has entered. It
 -- takes a free hidden object only when each path from a root to it passes an object that the caller holds
 abbrev pub Dominates : Shared → ℕ → Frame → Due → Type 0
 Dominates world caller frame (TakesRoot number) = (¬ (IsEntered frame)) × ((name : Name) → IsHeld world.heap caller name → (name.ticket ≡ 0) × (name.index < number))
@@ -83,4 +83,5 @@ Dominates world caller frame (Writes name field value) = IsHeld world.heap calle
 Dominates world caller frame (Takes name) = IsFree world.heap name → (first : ℕ) (path : Path world.heap (root first) name) → Passes world.heap caller (root first) name path
 Dominates world caller frame (LetsGo name) = IsEntered frame
 Dominates world caller frame (GivesUp name) = IsEntered frame
+Dominates world caller frame (Seals name) = IsEntered frame
 Dominates world caller frame due = Unit {0}

@@ -14,11 +14,12 @@ use Rattle.dl_shape.specs.Rising.{in_rising}
 use Rattle.dl_core.specs.Plans.{Plan, IsPlan, source_of}
 use Rattle.dl_core.specs.Frames.{Frame}
 use Rattle.dl_core.specs.Core.{Account, frame_of, entry_of, entries_of, refusals_of}
-use Rattle.dl_core.specs.Laws.{LawfulAlways}
 use Rattle.dl_core.specs.Passes.{PassView, entries_in, refusals_in}
 use Rattle.dl_core.specs.Closing.{EndsOn, IsLawfulEnd, AreDone, all_of, begun_on, history_in as history_left}
 use Rattle.dl_core.specs.Sound.{IsSound, numbers_from}
-use Rattle.dl_order.specs.Ends.{AreAllIdle, IsRun, RunsEnd, RunsClose, history_in, refusals_in as all_refusals}
+use Rattle.dl_core.proofs.LawfulAlways.{lawful_always}
+use Rattle.dl_order.specs.Ends.{AreAllIdle, IsRun, RunsClose, history_in, refusals_in as all_refusals}
+use Rattle.dl_order.proofs.Ends.{runs_end}
 
 found : {X : Type 0} (xs : List X) (at : ℕ) → at < length xs → (x : X) × (slice_get xs at ≡ Some x)
 found [] at lt = absurd (omega arith)
@@ -38,12 +39,12 @@ pieces f g first (view ∷ views) same =
     ap₂ (λ xs ys. xs ++ ys) (let here : first + 0 ≡ first = omega arith in same 0 view refl ∙ ap g here)
     (pieces f g (first + 1) views (λ at other there. let later : first + suc at ≡ first + 1 + at = omega arith in same (suc at) other there ∙ ap g later))
 
-module _ (always : LawfulAlways) (end : RunsEnd) (plan : Plan) (views : List PassView) (closed : Closed) (is : IsPlan plan) (done : AreDone views) (on : EndsOn plan views closed) where
+module _ (plan : Plan) (views : List PassView) (closed : Closed) (is : IsPlan plan) (done : AreDone views) (on : EndsOn plan views closed) where
   abbrev calls : List (List Call)
   calls = begun_on views
 
   sound : IsSound plan on.core calls
-  sound = (always plan on.core calls is on.reached).sound
+  sound = (lawful_always plan on.core calls is on.reached).sound
 
   many : length views ≡ length plan.sizes
   many = sym (length-map views (λ (view : PassView). view.calls)) ∙ sound.lists
@@ -60,7 +61,7 @@ module _ (always : LawfulAlways) (end : RunsEnd) (plan : Plan) (views : List Pas
   ]
 
   run : IsRun plan on.core calls
-  run = end plan on.core calls is on.reached resting
+  run = runs_end plan on.core calls is on.reached resting
 
   entries_same : (at : ℕ) (view : PassView) → slice_get views at ≡ Some view → entries_in view ≡ entries_of on.core (1 + at)
   entries_same at view there =
@@ -92,5 +93,5 @@ module _ (always : LawfulAlways) (end : RunsEnd) (plan : Plan) (views : List Pas
     free = ap₂ (λ (free : ℕ) (heap : Objects). free + hidden_count heap) on.free on.heap ∙ run.free;
   }
 
-pub runs_close : LawfulAlways → RunsEnd → RunsClose
-runs_close always end plan views closed is done on = lawful_end always end plan views closed is done on
+pub runs_close : RunsClose
+runs_close plan views closed is done on = lawful_end plan views closed is done on

@@ -33,17 +33,17 @@ use Rattle.dl_core.specs.declared.objects.Mark.TheVariants as marks
 use Rattle.dl_core.specs.declared.objects.Object.{Object}
 use Rattle.dl_core.specs.declared.stages.Finished.{Finished}
 use Rattle.dl_core.specs.declared.stages.Versions.{Versions}
-use Rattle.dl_core.specs.Codes.{PlansHaveGoodCode}
 use Rattle.dl_core.specs.Heaps.{refs, plain, plain_object, is_sealed}
 use Rattle.dl_core.specs.Plans.{Plan, IsPlan, source_of, allocs_of, size_of}
 use Rattle.dl_core.specs.Frames.{Frame, IsEntered, idle, at_rest}
 use Rattle.dl_core.specs.Steps.{InTurn, none, next}
 use Rattle.dl_core.specs.Core.{Core, Shared, account_of, frame_of, rules_of, entry_of, entries_of, refusals_of}
 use Rattle.dl_core.specs.Reached.{Calls, calls_of, IsReached}
-use Rattle.dl_core.specs.Laws.{LawfulAlways, LoneRunsEnd, finished_entries as told_by, history_of}
+use Rattle.dl_order.specs.Serial.{finished_entries as told_by, history_of}
 use Rattle.dl_core.specs.Sound.{IsSound, callers_of, numbers_from, moves_in, move_in_hand, in_hand_at}
 use Rattle.dl_core.proofs.Names.{same_number, same_some, no_some}
 use Rattle.dl_core.proofs.Plain.{get_plain, plain_refs}
+use Rattle.dl_core.proofs.LawfulAlways.{lawful_always}
 use Rattle.dl_order.specs.Ends.{AreAllIdle, history_in, refusals_in, IsRun, RunsEnd}
 use Rattle.dl_order.proofs.Always.{serial_on}
 use Rattle.dl_order.proofs.Histories.{told, same_pieces}
@@ -182,7 +182,7 @@ no_spares : (frames : List Frame) → ((c : ℕ) → (get_or frames c idle).spar
 no_spares [] z = refl
 no_spares (f ∷ frames) z = omega (arith, sum_by-cons (λ (f : Frame). f.spares) f frames, z 0, no_spares frames (λ c. z (suc c)))
 
-module _ (always : LawfulAlways) (lone : LoneRunsEnd) (good : PlansHaveGoodCode) (plan : Plan) (is : IsPlan plan) (core : Core) (calls : Calls) (reached : IsReached plan core calls) (resting : AreAllIdle core) where
+module _ (plan : Plan) (is : IsPlan plan) (core : Core) (calls : Calls) (reached : IsReached plan core calls) (resting : AreAllIdle core) where
   abbrev source : Module
   source = source_of plan
 
@@ -193,10 +193,10 @@ module _ (always : LawfulAlways) (lone : LoneRunsEnd) (good : PlansHaveGoodCode)
   entries = flat_map (entries_of core) (callers_of plan)
 
   sound : IsSound plan core calls
-  sound = (always plan core calls is reached).sound
+  sound = (lawful_always plan core calls is reached).sound
 
   rests : (caller : ℕ) → frame_of core.world caller ≡ at_rest (frame_of core.world caller).index (frame_of core.world caller).finished
-  rests caller = idle_rests plan core.world.heap calls caller (frame_of core.world caller) (stands_of always good plan is core calls reached caller) (resting caller)
+  rests caller = idle_rests plan core.world.heap calls caller (frame_of core.world caller) (stands_of plan is core calls reached caller) (resting caller)
 
   -- ---- the history
 
@@ -218,7 +218,7 @@ module _ (always : LawfulAlways) (lone : LoneRunsEnd) (good : PlansHaveGoodCode)
 
   replay : IsReplayOf plan calls core.clock (plain core.world.heap) (history_of core.world)
   replay =
-      let serial = serial_on always lone good plan is core calls reached in
+      let serial = serial_on plan is core calls reached in
       subst (λ (w : Shared). IsReplayOf plan calls core.clock (plain w.heap) (history_of w)) (nobody_runs serial.callers serial.end serial.row.entered serial.runs) serial.replay
 
   legal : IsLegal source calls plan.heap (history_in plan core)
@@ -242,7 +242,7 @@ module _ (always : LawfulAlways) (lone : LoneRunsEnd) (good : PlansHaveGoodCode)
       subst (λ c. In entry (entries_of core c) × TellsOf c (frame_of core.world c).finished entry) (sym fact.by_caller) (piece.1.1, fact)
 
   orders : (c : ℕ) → IsInOrder (frame_of core.world c) (account_of core c) core.clock c
-  orders c = all_in_order always lone good plan is core calls reached c
+  orders c = all_in_order plan is core calls reached c
 
   refused_by : (refusal : Refusal) → In refusal (refusals_in plan core) → In refusal (refusals_of core refusal.caller)
   refused_by refusal there =
@@ -416,7 +416,7 @@ module _ (always : LawfulAlways) (lone : LoneRunsEnd) (good : PlansHaveGoodCode)
   free : core.pool.free + hidden_count (plain core.world.heap) ≡ plan.places
   free =
       let spares = no_spares core.world.frames (λ c. ap (λ (f : Frame). f.spares) (rests c)) in
-      omega (arith, (always plan core calls is reached).lawful.totals.places, spares)
+      omega (arith, (lawful_always plan core calls is reached).lawful.totals.places, spares)
 
   one_field : (name : Name) (object : Obj) → finite.get (plain core.world.heap) name ≡ Some object → IsHidden name → object.sealed ≡ false → references.refs (plain core.world.heap) name ≡ 1
   one_field name object there hidden unsealed = plain_refs core.world.heap name ∙ by (finite.get core.world.heap name) refl (sym (get_plain core.world.heap name) ∙ there)
@@ -425,8 +425,8 @@ module _ (always : LawfulAlways) (lone : LoneRunsEnd) (good : PlansHaveGoodCode)
       no_seal e = cc
 
       by_mark : (o : Object) → finite.get core.world.heap name ≡ Some o → (mark : Mark) → o.mark ≡ mark → is_sealed mark ≡ false → refs core.world.heap name ≡ 1
-      by_mark o at marks.Free m u = (always plan core calls is reached).lawful.free_refs.one name o at m hidden
-      by_mark o at (marks.Held c) m u = absurd ((always plan core calls is reached).lawful.who_holds.idle c name (resting c) (record { object = o; there = at; held = m }))
+      by_mark o at marks.Free m u = (lawful_always plan core calls is reached).lawful.free_refs.one name o at m hidden
+      by_mark o at (marks.Held c) m u = absurd ((lawful_always plan core calls is reached).lawful.who_holds.idle c name (resting c) (record { object = o; there = at; held = m }))
       by_mark o at (marks.Sealed t) m u = absurd (no_seal u)
 
       by : (found : Option Object) → finite.get core.world.heap name ≡ found → option_map plain_object found ≡ Some object → refs core.world.heap name ≡ 1
@@ -444,7 +444,7 @@ module _ (always : LawfulAlways) (lone : LoneRunsEnd) (good : PlansHaveGoodCode)
 
   all_of_module : All (AreCallsOf source) calls
   all_of_module = λ place d within.
-      let fewer : length (calls_of calls (suc place)) ≤ size_of plan (suc place) = (always plan core calls is reached).lawful.totals.sizes (suc place) (record { from_one = omega arith; to_last = omega (arith, within, sound.lists) }) in
+      let fewer : length (calls_of calls (suc place)) ≤ size_of plan (suc place) = (lawful_always plan core calls is reached).lawful.totals.sizes (suc place) (record { from_one = omega arith; to_last = omega (arith, within, sound.lists) }) in
       let few : size_of plan (suc place) ≤ 65536 = is.few_calls place 0 (omega (arith, within, sound.lists)) in
       let same : length (get_or calls place d) ≡ length (calls_of calls (suc place)) = ap (λ (cs : List Call). length cs) (either_default calls place d [] within) in
       record {
@@ -457,7 +457,7 @@ module _ (always : LawfulAlways) (lone : LoneRunsEnd) (good : PlansHaveGoodCode)
   unsealed closed = never_seals source calls plan.heap (history_in plan core) all_of_module closed legal
 
   is_run : IsRun plan core calls
-  is_run = record { covers = covers; legal = legal; pool = pool; unsealed = unsealed; refusals = refusals_stand; heap = heap_is; free = free; of_module = sound.heap; one_field = one_field }
+  is_run = record { covers = covers; legal = legal; pool = pool; unsealed = unsealed; refusals = refusals_stand; heap = heap_is; free = free; again = record { of_module = sound.heap; one_field = one_field; room = omega (arith, free) } }
 
-pub runs_end : LawfulAlways → LoneRunsEnd → PlansHaveGoodCode → RunsEnd
-runs_end always lone good plan core calls is reached resting = is_run always lone good plan is core calls reached resting
+pub runs_end : RunsEnd
+runs_end plan core calls is reached resting = is_run plan is core calls reached resting

@@ -17,7 +17,6 @@ use Rattle.dl_core.specs.declared.objects.Mark.TheVariants as marks
 use Rattle.dl_core.specs.declared.objects.Object.{Object}
 use Rattle.dl_core.specs.declared.stages.Stage.{Stage}
 use Rattle.dl_core.specs.declared.stages.Stage.TheVariants as stages
-use Rattle.dl_core.specs.Codes.{PlansHaveGoodCode}
 use Rattle.dl_core.specs.Heaps.{refs, plain}
 use Rattle.dl_core.specs.Plans.{Plan, IsPlan, IsCaller, source_of, op_of, allocs_of, roots_of, locals_of, fuel_of}
 use Rattle.dl_core.specs.Frames.{Frame, IsEntered, idle, waiting}
@@ -29,13 +28,15 @@ use Rattle.dl_core.specs.Core.{Core, Shared, frame_of, rules_of, aim_of, with_fr
 use Rattle.dl_core.specs.Reached.{Calls, IsReached, steps}
 use Rattle.dl_core.specs.Reach.{ticket_in}
 use Rattle.dl_core.specs.Sound.{Stands, idles, waits, works, HasCall, IsWaiting}
-use Rattle.dl_core.specs.Laws.{LawfulAlways, LoneRunsEnd, HasJustEntered, RunsAlone, history_of}
+use Rattle.dl_core.specs.Laws.{HasJustEntered, RunsAlone}
+use Rattle.dl_order.specs.Serial.{history_of}
 use Rattle.dl_core.proofs.Kept.{ready_same}
 use Rattle.dl_core.proofs.Names.{same_number}
-use Rattle.dl_core.proofs.Runs.{turns_aside, turns_then}
+use Rattle.dl_core.proofs.LawfulAlways.{lawful_always}
+use Rattle.dl_core.proofs.LoneRunsEnd.{lone_runs_end}
 use Rattle.dl_order.proofs.Histories.{legal_tickets, told, history_pushes}
 use Rattle.dl_order.proofs.Lists.{Each, In, each_of, each_in, each_map, each_append, in_first, in_last, up_push, up_same}
-use Rattle.dl_order.proofs.Runs.{turn_frame, alone_frame, alone_long, turn_long, turn_over, turn_inv}
+use Rattle.dl_order.proofs.Runs.{turns_aside, turns_then, turn_frame, alone_frame, alone_long, turn_long, turn_over, turn_inv}
 use Rattle.dl_order.proofs.Serial.{IsRow, IsReplayOf, IsSerialOn, none_entered, replay_entry, replay_as, IsCalledFor, for_places, for_a_root, for_a_ticket, called_for, waiting_due, no_lookup, call_begun, world_of, not_called_past}
 use Rattle.dl_order.proofs.Worlds.{IsWorldOf, IsOther, stands_of, nowhere_unentered, ordered}
 
@@ -45,9 +46,9 @@ pub record IsEntering (plan : Plan) (calls : Calls) (caller : ℕ) (frame : Fram
   pub comes : due plan frame ≡ Enters
   pub waits : frame ≡ waiting frame.call (length (roots_of plan frame.call)) (allocs_of plan frame.call) frame.book frame.index frame.finished
 
-module _ (always : LawfulAlways) (lone : LoneRunsEnd) (good : PlansHaveGoodCode) (plan : Plan) (is : IsPlan plan) where
+module _ (plan : Plan) (is : IsPlan plan) where
   pub enters_when : (core : Core) (calls : Calls) (caller : ℕ) → IsReached plan core calls → due plan (frame_of core.world caller) ≡ Enters → IsEntering plan calls caller (frame_of core.world caller)
-  enters_when core calls caller reached enters = by (stands_of always good plan is core calls reached caller)
+  enters_when core calls caller reached enters = by (stands_of plan is core calls reached caller)
     where
       by_call : (call : HasCall plan calls caller (frame_of core.world caller)) → IsWaiting plan (frame_of core.world caller) call.op → IsCalledFor plan (frame_of core.world caller) Enters → IsEntering plan calls caller (frame_of core.world caller)
       by_call call w (for_places need e all few) = absurd (cc)
@@ -74,14 +75,14 @@ module _ (always : LawfulAlways) (lone : LoneRunsEnd) (good : PlansHaveGoodCode)
       by : Stands plan core.world.heap calls caller (frame_of core.world caller) → IsEntering plan calls caller (frame_of core.world caller)
       by (idles e) = absurd (let nothing = sym (ap (due plan) e) ∙ enters in cc)
       by (waits call w) = by_call call w (subst (IsCalledFor plan (frame_of core.world caller)) (sym (waiting_due plan (frame_of core.world caller) w.is) ∙ enters) (called_for plan (frame_of core.world caller)))
-      by (works call e w) = absurd (nowhere_unentered always good plan is core calls reached caller (ap aim_of enters) e)
+      by (works call e w) = absurd (nowhere_unentered plan is core calls reached caller (ap aim_of enters) e)
 
   -- where nobody else runs, the operation that enters has just entered
-  just_entered : (core : Core) (calls : Calls) (caller : ℕ) → IsReached plan core calls → IsEntering plan calls caller (frame_of core.world caller) → caller < length core.world.frames
+  pub just_entered : (core : Core) (calls : Calls) (caller : ℕ) → IsReached plan core calls → IsEntering plan calls caller (frame_of core.world caller) → caller < length core.world.frames
       → ((other : ℕ) → IsEntered (frame_of core.world other) → ⊥)
       → HasJustEntered plan (with_frame core.world caller (entered plan (core.clock + 1) (frame_of core.world caller))) caller (core.clock + 1) (frame_of core.world caller).call
   just_entered core calls caller reached e lt nobody =
-      let kept = always plan core calls is reached in
+      let kept = lawful_always plan core calls is reached in
       let z : (frame_of core.world caller).ticket ≡ 0 = ap (λ (f : Frame). f.ticket) e.waits in
       record {
         alone = λ other apart.
@@ -102,14 +103,14 @@ module _ (always : LawfulAlways) (lone : LoneRunsEnd) (good : PlansHaveGoodCode)
       }
     where
       by_mark : (name : Name) (object : Object) → finite.get core.world.heap name ≡ Some object → IsHidden name → (mark : Mark) → object.mark ≡ mark → ((object.mark ≡ marks.Free) × (refs core.world.heap name ≡ 1)) ⊎ ((by : ℕ) × (object.mark ≡ marks.Sealed by))
-      by_mark name object there hid marks.Free m = inl (m, (always plan core calls is reached).lawful.free_refs.one name object there m hid)
-      by_mark name object there hid (marks.Held other) m = absurd (nobody other ((always plan core calls is reached).lawful.who_holds.hidden other name (record { object = object; there = there; held = m }) hid))
+      by_mark name object there hid marks.Free m = inl (m, (lawful_always plan core calls is reached).lawful.free_refs.one name object there m hid)
+      by_mark name object there hid (marks.Held other) m = absurd (nobody other ((lawful_always plan core calls is reached).lawful.who_holds.hidden other name (record { object = object; there = there; held = m }) hid))
       by_mark name object there hid (marks.Sealed ticket) m = inr (ticket, m)
 
   -- where the lone runs have ended nobody has entered
   nobody_left : (core : Core) (calls : Calls) (world : Shared) (clock : ℕ) (callers : List ℕ) → IsReached plan core calls → IsRow world clock callers → InTurn (rules_of plan) callers world core.world → (other : ℕ) → IsEntered (frame_of core.world other) → ⊥
   nobody_left core calls world clock callers reached row runs other e = elim (cases_lt 0 (ticket_in world other)) [
-    | inl entered_before ↦ nowhere_unentered always good plan is core calls reached other (turn_over (rules_of plan) callers world core.world runs other (row.all other entered_before)) e
+    | inl entered_before ↦ nowhere_unentered plan is core calls reached other (turn_over (rules_of plan) callers world core.world runs other (row.all other entered_before)) e
     | inr not_before ↦
         let z : ticket_in world other ≡ 0 = omega arith in
         let stays = turn_frame (rules_of plan) callers world core.world runs other (none_entered world other callers z row.entered) in
@@ -125,7 +126,7 @@ module _ (always : LawfulAlways) (lone : LoneRunsEnd) (good : PlansHaveGoodCode)
     lone_run =
         let entry = enters plan core caller (frame_of core.world caller) in
         let entered_is : IsReached plan entry.0 calls = steps caller entry.1 reached (ap (step_due plan core caller (frame_of core.world caller)) e.comes) in
-        lone plan entry.0 calls caller (core.clock + 1) (frame_of core.world caller).call is (always plan entry.0 calls is entered_is) (just_entered core calls caller reached e lt nobody)
+        lone_runs_end plan entry.0 calls caller (core.clock + 1) (frame_of core.world caller).call is (lawful_always plan entry.0 calls is entered_is) (just_entered core calls caller reached e lt nobody)
 
     entered_frame : frame_of entered_world caller ≡ entered plan (core.clock + 1) (frame_of core.world caller)
     entered_frame = get_or-set_same core.world.frames caller (entered plan (core.clock + 1) (frame_of core.world caller)) idle lt
@@ -141,7 +142,7 @@ module _ (always : LawfulAlways) (lone : LoneRunsEnd) (good : PlansHaveGoodCode)
     is_caller : 0 < caller
     is_caller = elim (cases_lt 0 caller) [
       | inl low ↦ low
-      | inr le ↦ absurd (clash (frame_of core.world caller).stage (ap (λ (f : Frame). f.stage) e.waits) ((always plan core calls is reached).sound.nobody caller (λ (c : IsCaller plan caller). omega (arith, c.from_one, le))))
+      | inr le ↦ absurd (clash (frame_of core.world caller).stage (ap (λ (f : Frame). f.stage) e.waits) ((lawful_always plan core calls is reached).sound.nobody caller (λ (c : IsCaller plan caller). omega (arith, c.from_one, le))))
     ]
       where
         clash : (s : Stage) → s ≡ stages.Called → s ≡ stages.Idle → ⊥
@@ -179,9 +180,9 @@ module _ (always : LawfulAlways) (lone : LoneRunsEnd) (good : PlansHaveGoodCode)
   enters_on core calls caller reached serial due_enters =
       let entering = enters_when core calls caller reached due_enters in
       let z : (frame_of core.world caller).ticket ≡ 0 = ap (λ (f : Frame). f.ticket) entering.waits in
-      let lt = not_called_past always lone good plan is core.world caller (ap (λ (f : Frame). f.stage) entering.waits) in
+      let lt = not_called_past plan is core.world caller (ap (λ (f : Frame). f.stage) entering.waits) in
       let apart = none_entered core.world caller serial.callers z serial.row.entered in
-      let v : IsWorldOf plan calls core.clock serial.end = turn_inv (rules_of plan) (IsWorldOf plan calls core.clock) IsOther (ordered always good plan is calls core.clock) serial.callers core.world serial.end serial.runs (world_of always lone good plan is core calls reached) in
+      let v : IsWorldOf plan calls core.clock serial.end = turn_inv (rules_of plan) (IsWorldOf plan calls core.clock) IsOther (ordered plan is calls core.clock) serial.callers core.world serial.end serial.runs (world_of plan is core calls reached) in
       let runs : InTurn (rules_of plan) serial.callers core.world v.core.world = subst (InTurn (rules_of plan) serial.callers core.world) (sym v.is) serial.runs in
       let stays : frame_of v.core.world caller ≡ frame_of core.world caller = turn_frame (rules_of plan) serial.callers core.world v.core.world runs caller apart in
       let replay : IsReplayOf plan calls v.core.clock (plain v.core.world.heap) (history_of v.core.world)

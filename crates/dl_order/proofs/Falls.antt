@@ -12,7 +12,6 @@ use Rattle.dl_core.specs.declared.objects.Mark.TheVariants as marks
 use Rattle.dl_core.specs.declared.objects.Object.{Object}
 use Rattle.dl_core.specs.declared.stages.Stage.{Stage}
 use Rattle.dl_core.specs.declared.stages.Stage.TheVariants as stages
-use Rattle.dl_core.specs.Codes.{PlansHaveGoodCode}
 use Rattle.dl_core.specs.Plans.{Plan, IsPlan, allocs_of, roots_of, size_of, locals_of, fuel_of}
 use Rattle.dl_core.specs.Frames.{Frame, IsEntered, idle}
 use Rattle.dl_core.specs.declared.dues.Due.TheVariants.{Reserves, TakesRoot}
@@ -21,10 +20,10 @@ use Rattle.dl_core.specs.Events.{Acted, act, take_root, took_root, entered, rese
 use Rattle.dl_core.specs.Core.{Core, frame_of}
 use Rattle.dl_core.specs.Reached.{Calls, IsReached, MayBegin, calls_of, with_begun, steps}
 use Rattle.dl_core.specs.Sound.{numbers_from}
-use Rattle.dl_core.specs.Laws.{LawfulAlways, LoneRunsEnd}
 use Rattle.dl_core.proofs.Kept.{ready_same}
 use Rattle.dl_core.proofs.Machine.{StepIs, reserves_now, refuses_now, enters_now, finishes_now, touches_one, step_is}
 use Rattle.dl_core.proofs.Names.{same_number, same_some, no_some}
+use Rattle.dl_core.proofs.LawfulAlways.{lawful_always}
 use Rattle.dl_order.specs.Measure.{calls_left, left_before, steps_before_entry, BeginsFall, StepsFall}
 use Rattle.dl_order.proofs.Always.{asks_when, finishes_when, touches_when, Touches, runs_on, at_root}
 use Rattle.dl_order.proofs.Entering.{enters_when}
@@ -58,21 +57,20 @@ begun_there calls zero other call apart = refl
 begun_there calls (suc place) zero call apart = refl
 begun_there calls (suc place) (suc other) call apart = get_or-set_other calls place other (get_or calls place [] ++ call ∷ []) [] (λ same. apart (ap suc same))
 
-module _ (always : LawfulAlways) where
-  begins_here : (plan : Plan) (core : Core) (calls : Calls) (caller : ℕ) (call : Call) → IsPlan plan → IsReached plan core calls → MayBegin plan core calls caller call
-      → calls_left plan calls ≡ calls_left plan (with_begun calls caller call) + 1
-  begins_here plan core calls zero call is reached may = absurd (omega (arith, may.is_caller.from_one))
-  begins_here plan core calls (suc place) call is reached may =
-      let sound = (always plan core calls is reached).sound in
-      let one_more : length (calls_of (with_begun calls (suc place) call) (suc place)) ≡ length (calls_of calls (suc place)) + 1
-      = ap (λ (cs : List Call). length cs) (begun_here calls place call (omega (arith, may.is_caller.to_last, sound.lists))) ∙ length-append (calls_of calls (suc place)) (call ∷ []) in
-      sum_falls (λ c. size_of plan c - length (calls_of calls c)) (λ c. size_of plan c - length (calls_of (with_begun calls (suc place) call) c)) (suc place)
-      (omega (arith, one_more, may.room)) (λ n apart. ap (λ (cs : List Call). size_of plan n - length cs) (sym (begun_there calls (suc place) n call apart)))
-      1 (length plan.sizes) (omega arith) (omega (arith, may.is_caller.to_last))
+begins_here : (plan : Plan) (core : Core) (calls : Calls) (caller : ℕ) (call : Call) → IsPlan plan → IsReached plan core calls → MayBegin plan core calls caller call
+    → calls_left plan calls ≡ calls_left plan (with_begun calls caller call) + 1
+begins_here plan core calls zero call is reached may = absurd (omega (arith, may.is_caller.from_one))
+begins_here plan core calls (suc place) call is reached may =
+    let sound = (lawful_always plan core calls is reached).sound in
+    let one_more : length (calls_of (with_begun calls (suc place) call) (suc place)) ≡ length (calls_of calls (suc place)) + 1
+    = ap (λ (cs : List Call). length cs) (begun_here calls place call (omega (arith, may.is_caller.to_last, sound.lists))) ∙ length-append (calls_of calls (suc place)) (call ∷ []) in
+    sum_falls (λ c. size_of plan c - length (calls_of calls c)) (λ c. size_of plan c - length (calls_of (with_begun calls (suc place) call) c)) (suc place)
+    (omega (arith, one_more, may.room)) (λ n apart. ap (λ (cs : List Call). size_of plan n - length cs) (sym (begun_there calls (suc place) n call apart)))
+    1 (length plan.sizes) (omega arith) (omega (arith, may.is_caller.to_last))
 
 -- ---- steps
 
-module _ (always : LawfulAlways) (lone : LoneRunsEnd) (good : PlansHaveGoodCode) (plan : Plan) (is : IsPlan plan) where
+module _ (plan : Plan) (is : IsPlan plan) where
   abbrev left : Frame → ℕ
   left frame = left_before plan frame frame.stage
 
@@ -96,7 +94,7 @@ module _ (always : LawfulAlways) (lone : LoneRunsEnd) (good : PlansHaveGoodCode)
   -- who has entered has none left before its entry
   entered_left : (core : Core) (calls : Calls) (caller : ℕ) → IsReached plan core calls → IsEntered (frame_of core.world caller) → left (frame_of core.world caller) ≡ 0
   entered_left core calls caller reached e =
-      busy_left (frame_of core.world caller) (frame_of core.world caller).stage (entered_busy plan core.world.heap calls caller (frame_of core.world caller) (stands_of always good plan is core calls reached caller) e).1
+      busy_left (frame_of core.world caller) (frame_of core.world caller).stage (entered_busy plan core.world.heap calls caller (frame_of core.world caller) (stands_of plan is core calls reached caller) e).1
 
   abbrev Falls : Core → Core → ℕ → Type 0
   Falls core after caller = ((frame_of core.world caller).ticket ≡ 0 → steps_before_entry plan after.world < steps_before_entry plan core.world)
@@ -109,7 +107,7 @@ module _ (always : LawfulAlways) (lone : LoneRunsEnd) (good : PlansHaveGoodCode)
   none_left core after caller frame lt e entered before now = (λ z. absurd (omega (arith, z, entered)), λ _. omega (arith, one_frame core after caller frame lt e, before, now))
 
   reserve_less : (core : Core) (calls : Calls) (caller need : ℕ) → IsReached plan core calls → (frame_of core.world caller).stage ≡ stages.Called → due plan (frame_of core.world caller) ≡ Reserves need → left (reserved need (frame_of core.world caller)) < left (frame_of core.world caller)
-  reserve_less core calls caller need reached called asks = by (stands_called always lone good plan is core calls reached caller called).2
+  reserve_less core calls caller need reached called asks = by (stands_called plan is core calls reached caller called).2
     where
       same_need : {a b : ℕ} → Reserves a ≡ Reserves b → a ≡ b
       same_need e = cc
@@ -140,7 +138,7 @@ module _ (always : LawfulAlways) (lone : LoneRunsEnd) (good : PlansHaveGoodCode)
       by (marks.Sealed ticket) e = absurd (no_some e)
 
   root_less : (core : Core) (calls : Calls) (caller number kind : ℕ) → IsReached plan core calls → (frame_of core.world caller).stage ≡ stages.Called → due plan (frame_of core.world caller) ≡ TakesRoot number → left (took_root number kind (frame_of core.world caller)) < left (frame_of core.world caller)
-  root_less core calls caller number kind reached called takes = by (stands_called always lone good plan is core calls reached caller called).2
+  root_less core calls caller number kind reached called takes = by (stands_called plan is core calls reached caller called).2
     where
       by : IsCalledFor plan (frame_of core.world caller) (due plan (frame_of core.world caller)) → left (took_root number kind (frame_of core.world caller)) < left (frame_of core.world caller)
       by (for_places other e all few) = absurd (let clash = sym takes ∙ e in cc)
@@ -151,17 +149,17 @@ module _ (always : LawfulAlways) (lone : LoneRunsEnd) (good : PlansHaveGoodCode)
 
   falls : (core after : Core) (calls : Calls) (caller : ℕ) → IsReached plan core calls → IsReached plan after calls → StepIs plan core caller after → Falls core after caller
   falls core after calls caller reached then_reached (reserves_now need asks enough is_after) =
-      let when = asks_when always lone good plan is core calls caller need reached asks in
-      less_left core after caller (reserved need (frame_of core.world caller)) (not_called_past always lone good plan is core.world caller when.1) (ap (λ (c : Core). c.world.frames) is_after) when.0
+      let when = asks_when plan is core calls caller need reached asks in
+      less_left core after caller (reserved need (frame_of core.world caller)) (not_called_past plan is core.world caller when.1) (ap (λ (c : Core). c.world.frames) is_after) when.0
       (reserve_less core calls caller need reached when.1 asks)
   falls core after calls caller reached then_reached (refuses_now need asks few is_after) =
-      let when = asks_when always lone good plan is core calls caller need reached asks in
-      less_left core after caller (refused (frame_of core.world caller)) (not_called_past always lone good plan is core.world caller when.1) (ap (λ (c : Core). c.world.frames) is_after) when.0
+      let when = asks_when plan is core calls caller need reached asks in
+      less_left core after caller (refused (frame_of core.world caller)) (not_called_past plan is core.world caller when.1) (ap (λ (c : Core). c.world.frames) is_after) when.0
       (omega (arith, called_left (frame_of core.world caller) when.1))
   falls core after calls caller reached then_reached (enters_now enters is_after) =
-      let entering = enters_when always lone good plan is core calls caller reached enters in
+      let entering = enters_when plan is core calls caller reached enters in
       let called : (frame_of core.world caller).stage ≡ stages.Called = ap (λ (f : Frame). f.stage) entering.waits in
-      let lt = not_called_past always lone good plan is core.world caller called in
+      let lt = not_called_past plan is core.world caller called in
       let frames = ap (λ (c : Core). c.world.frames) is_after in
       let new = new_one core after caller (entered plan (core.clock + 1) (frame_of core.world caller)) lt frames in
       let ticket : (entered plan (core.clock + 1) (frame_of core.world caller)).ticket ≡ core.clock + 1
@@ -170,27 +168,27 @@ module _ (always : LawfulAlways) (lone : LoneRunsEnd) (good : PlansHaveGoodCode)
       less_left core after caller (entered plan (core.clock + 1) (frame_of core.world caller)) lt frames (ap (λ (f : Frame). f.ticket) entering.waits)
       (omega (arith, called_left (frame_of core.world caller) called, none_now, ap left new))
   falls core after calls caller reached then_reached (finishes_now how over is_after) =
-      let now = finishes_when always lone good plan is core calls caller how reached over in
-      none_left core after caller (finished how (frame_of core.world caller)) (has_frame always good plan is core.world caller now) (ap (λ (c : Core). c.world.frames) is_after) now (entered_left core calls caller reached now) refl
-  falls core after calls caller reached then_reached (touches_one name at outcome acts is_after) = by (touches_when always lone good plan is core calls caller name reached at)
+      let now = finishes_when plan is core calls caller how reached over in
+      none_left core after caller (finished how (frame_of core.world caller)) (has_frame plan is core.world caller now) (ap (λ (c : Core). c.world.frames) is_after) now (entered_left core calls caller reached now) refl
+  falls core after calls caller reached then_reached (touches_one name at outcome acts is_after) = by (touches_when plan is core calls caller name reached at)
     where
       frames : after.world.frames ≡ set core.world.frames caller outcome.0
       frames = ap (λ (c : Core). c.world.frames) is_after
 
-      by : Touches always lone good plan is core caller → Falls core after caller
+      by : Touches plan is core caller → Falls core after caller
       by (runs_on e) =
-          let lt = has_frame always good plan is core.world caller e in
+          let lt = has_frame plan is core.world caller e in
           let new = new_one core after caller outcome.0 lt frames in
           let one = touch_one plan caller (frame_of core.world caller) (due plan (frame_of core.world caller)) (finite.get core.world.heap name) outcome acts in
           let none_now = entered_left after calls caller then_reached (omega (arith, ap (λ (f : Frame). f.ticket) new, one.0, e)) in
           none_left core after caller outcome.0 lt frames e (entered_left core calls caller reached e) (ap left (sym new) ∙ none_now)
       by (at_root number takes z called) =
           let took = root_frame caller number (frame_of core.world caller) (finite.get core.world.heap name) outcome (ap (λ d. act plan caller (frame_of core.world caller) d (finite.get core.world.heap name)) (sym takes) ∙ acts) in
-          less_left core after caller outcome.0 (not_called_past always lone good plan is core.world caller called) frames z
+          less_left core after caller outcome.0 (not_called_past plan is core.world caller called) frames z
           (omega (arith, ap left took.1, root_less core calls caller number took.0 reached called takes))
 
-pub begins_fall : LawfulAlways → BeginsFall
-begins_fall always plan core calls caller call is reached may = begins_here always plan core calls caller call is reached may
+pub begins_fall : BeginsFall
+begins_fall plan core calls caller call is reached may = begins_here plan core calls caller call is reached may
 
-pub steps_fall : LawfulAlways → LoneRunsEnd → PlansHaveGoodCode → StepsFall
-steps_fall always lone good plan core after calls caller answer is reached e = falls always lone good plan is core after calls caller reached (steps caller answer reached e) (step_is plan core caller after answer e)
+pub steps_fall : StepsFall
+steps_fall plan core after calls caller answer is reached e = falls plan is core after calls caller reached (steps caller answer reached e) (step_is plan core caller after answer e)

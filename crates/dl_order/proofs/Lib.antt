@@ -6,6 +6,7 @@ pub mod Worlds
 pub mod Histories
 pub mod Serial
 pub mod Entering
+pub mod Finishing
 pub mod Always
 pub mod Waits
 pub mod Measure
@@ -17,3 +18,8 @@ pub mod Progress
 pub mod Falls
 pub mod Ending
 pub mod Closes
+pub mod Found
+pub mod Given
+pub mod Answering
+pub mod Small
+pub mod Looking

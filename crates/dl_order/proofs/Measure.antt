@@ -2,14 +2,13 @@
 use Rattle.std.proofs.Common.{◌≡◌, inl, inr, ℕ, ◌+◌, ◌<◌, ◌≤◌, List, [], ◌∷◌, Some, refl, sym, ap, subst, ◌∙◌, arith}
 use Rattle.dl_shape.proofs.Rising.{rises_same}
 use Rattle.dl_core.specs.declared.answers.Progress.{Progress}
-use Rattle.dl_core.specs.Codes.{PlansHaveGoodCode}
 use Rattle.dl_core.specs.Plans.{Plan, IsPlan}
 use Rattle.dl_core.specs.Frames.{IsEntered}
 use Rattle.dl_core.specs.Steps.{Alone, over, then_on, InTurn, next}
 use Rattle.dl_core.specs.Core.{Core, Shared, frame_of, rules_of, step}
 use Rattle.dl_core.specs.Reached.{Calls, IsReached}
 use Rattle.dl_core.specs.Reach.{ticket_in}
-use Rattle.dl_core.specs.Laws.{LawfulAlways, LoneRunsEnd, AreRunning, Rests}
+use Rattle.dl_order.specs.Serial.{AreRunning, Rests}
 use Rattle.dl_core.proofs.Diamond.{step→moves}
 use Rattle.dl_core.proofs.Machine.{step_is}
 use Rattle.dl_order.specs.Lengths.{steps_in_turn}
@@ -32,10 +31,10 @@ rests_are_one plan core calls end other is reached rests more =
     turn_one (rules_of plan) rests.callers core.world end other rests.runs (steps_in_turn (rules_of plan) more.runs)
     (subst (λ cs. InTurnIn (rules_of plan) (steps_in_turn (rules_of plan) more.runs) cs core.world other) same (more.runs, refl))
 
-module _ (always : LawfulAlways) (lone : LoneRunsEnd) (good : PlansHaveGoodCode) (plan : Plan) (is : IsPlan plan) where
+module _ (plan : Plan) (is : IsPlan plan) where
   left_from : (core : Core) (calls : Calls) (end : Shared) → IsReached plan core calls → (rests : Rests plan core.world end) → IsLeft plan core.world core.clock end (steps_to_end rests)
   left_from core calls end reached rests =
-      let serial = serial_on always lone good plan is core calls reached in
+      let serial = serial_on plan is core calls reached in
       record {
         callers = rests.callers;
         row = record {
@@ -54,7 +53,7 @@ module _ (always : LawfulAlways) (lone : LoneRunsEnd) (good : PlansHaveGoodCode)
   one_step_here : (core after : Core) (calls : Calls) (caller : ℕ) (answer : Progress) (end : Shared) → IsReached plan core calls → IsEntered (frame_of core.world caller)
       → step plan core caller ≡ Some (after, answer) → (rests : Rests plan core.world end) → (left : Rests plan after.world end) × (steps_to_end rests ≡ steps_to_end left + 1)
   one_step_here core after calls caller answer end reached entered steps rests =
-      let on = one_less always lone good plan is core after calls caller end (steps_to_end rests) reached (left_from core calls end reached rests) entered (step_is plan core caller after answer steps) in
+      let on = one_less plan is core after calls caller end (steps_to_end rests) reached (left_from core calls end reached rests) entered (step_is plan core caller after answer steps) in
       let left = rests_left after end on.1.0 on.1.2 in
       (left.0, on.1.1 ∙ ap (λ n. n + 1) (sym left.1))
 
@@ -66,7 +65,7 @@ module _ (always : LawfulAlways) (lone : LoneRunsEnd) (good : PlansHaveGoodCode)
   first_moves core calls caller end (first ∷ rest) reached row (next {mid = mid} run more) entered oldest = by (row.all caller entered)
     where
       begins : (c : ℕ) → IsEntered (frame_of core.world c) → (d : Shared) → Alone (rules_of plan) c core.world d → (after : Core) × (answer : Progress) × (step plan core c ≡ Some (after, answer))
-      begins c e d (over f) = absurd (nowhere_unentered always good plan is core calls reached c f e)
+      begins c e d (over f) = absurd (nowhere_unentered plan is core calls reached c f e)
       begins c e d (then_on {mid = on} s further) = let made = moves_step plan core c on (step→moves (rules_of plan) core.world c on s) in (made.after, made.answer, made.steps)
 
       by : In caller (first ∷ rest) → (after : Core) × (answer : Progress) × (step plan core caller ≡ Some (after, answer))
@@ -75,10 +74,10 @@ module _ (always : LawfulAlways) (lone : LoneRunsEnd) (good : PlansHaveGoodCode)
           let lt : ticket_in core.world first < ticket_in core.world caller = each_in (λ c. ticket_in core.world first < ticket_in core.world c) caller rest row.rises.0 there in
           absurd (omega (arith, lt, oldest first row.entered.0))
 
-pub one_step_less : LawfulAlways → LoneRunsEnd → PlansHaveGoodCode → OneStepLess
-one_step_less always lone good plan core after calls caller answer end is reached entered steps rests = one_step_here always lone good plan is core after calls caller answer end reached entered steps rests
+pub one_step_less : OneStepLess
+one_step_less plan core after calls caller answer end is reached entered steps rests = one_step_here plan is core after calls caller answer end reached entered steps rests
 
-pub oldest_moves : LawfulAlways → LoneRunsEnd → PlansHaveGoodCode → OldestMoves
-oldest_moves always lone good plan core calls caller is reached entered oldest =
-    let serial = serial_on always lone good plan is core calls reached in
-    first_moves always lone good plan is core calls caller serial.end serial.callers reached serial.row serial.runs entered oldest
+pub oldest_moves : OldestMoves
+oldest_moves plan core calls caller is reached entered oldest =
+    let serial = serial_on plan is core calls reached in
+    first_moves plan is core calls caller serial.end serial.callers reached serial.row serial.runs entered oldest

@@ -6,7 +6,6 @@ use Rattle.dl_ir.specs.declared.answers.Refusal.{Refusal}
 use Rattle.dl_core.specs.declared.stages.Finished.{Finished}
 use Rattle.dl_core.specs.declared.stages.Stage.{Stage}
 use Rattle.dl_core.specs.declared.stages.Stage.TheVariants as stages
-use Rattle.dl_core.specs.Codes.{PlansHaveGoodCode}
 use Rattle.dl_core.specs.Plans.{Plan, IsPlan, locals_of, fuel_of}
 use Rattle.dl_core.specs.Frames.{Frame, IsEntered, idle}
 use Rattle.dl_core.specs.LocalSteps.{due}
@@ -14,11 +13,11 @@ use Rattle.dl_core.specs.Events.{begun, reserved, refused, entered, finished, fi
 use Rattle.dl_core.specs.Core.{Account, Core, frame_of, account_of, no_account, fresh, with_call, refusal_of, versions_made}
 use Rattle.dl_core.specs.Reached.{Calls, IsReached, starts, begins, steps}
 use Rattle.dl_core.specs.Sound.{Stands, idles, waits, works}
-use Rattle.dl_core.specs.Laws.{LawfulAlways, LoneRunsEnd}
 use Rattle.dl_core.proofs.Fresh.{fresh_frame}
 use Rattle.dl_core.proofs.Kept.{ready_same}
 use Rattle.dl_core.proofs.Machine.{StepIs, reserves_now, refuses_now, enters_now, finishes_now, touches_one, step_is}
 use Rattle.dl_core.proofs.Names.{same_number}
+use Rattle.dl_core.proofs.LawfulAlways.{lawful_always}
 use Rattle.dl_order.proofs.Always.{asks_when, finishes_when, touches_when, Touches, runs_on, at_root}
 use Rattle.dl_order.proofs.Entering.{enters_when}
 use Rattle.dl_order.proofs.Keeping.{touch_one}
@@ -76,7 +75,7 @@ record IsChange (core after : Core) (caller : ℕ) : Type 0 where
   accounts_is : after.pool.accounts ≡ set core.pool.accounts caller account
   clock : core.clock ≤ after.clock
 
-module _ (always : LawfulAlways) (lone : LoneRunsEnd) (good : PlansHaveGoodCode) (plan : Plan) (is : IsPlan plan) where
+module _ (plan : Plan) (is : IsPlan plan) where
   abbrev OrderedIn : Core → ℕ → Type 0
   OrderedIn core caller = IsInOrder (frame_of core.world caller) (account_of core caller) core.clock caller
 
@@ -84,7 +83,7 @@ module _ (always : LawfulAlways) (lone : LoneRunsEnd) (good : PlansHaveGoodCode)
       → ((c : ℕ) → OrderedIn core c) → (c : ℕ) → OrderedIn after c
   changed core after calls caller reached lt change order so_far c = elim (same_number c caller) [
     | inl same ↦
-        let sound = (always plan core calls is reached).sound in
+        let sound = (lawful_always plan core calls is reached).sound in
         let lt_accounts : caller < length core.pool.accounts = omega (arith, lt, sound.frames, sound.accounts) in
         let frame : frame_of after.world caller ≡ change.frame = ap (λ fs. get_or fs caller idle) change.frames_is ∙ get_or-set_same core.world.frames caller change.frame idle lt in
         let account : account_of after caller ≡ change.account = ap (λ xs. get_or xs caller no_account) change.accounts_is ∙ get_or-set_same core.pool.accounts caller change.account no_account lt_accounts in
@@ -106,10 +105,10 @@ module _ (always : LawfulAlways) (lone : LoneRunsEnd) (good : PlansHaveGoodCode)
 
   order_step : (core after : Core) (calls : Calls) (caller : ℕ) → IsReached plan core calls → ((c : ℕ) → OrderedIn core c) → StepIs plan core caller after → (c : ℕ) → OrderedIn after c
   order_step core after calls caller reached so_far (reserves_now need asks enough is_after) =
-      let when = asks_when always lone good plan is core calls caller need reached asks in
+      let when = asks_when plan is core calls caller need reached asks in
       let frame = frame_of core.world caller in
       let o = onward frame (reserved need frame) (account_of core caller) core.clock core.clock caller (omega arith) refl (omega arith) (none_below (reserved need frame) when.0 frame.finished) (omega (arith, when.0)) (so_far caller).unrefused (so_far caller) in
-      changed core after calls caller reached (not_called_past always lone good plan is core.world caller when.1) (record {
+      changed core after calls caller reached (not_called_past plan is core.world caller when.1) (record {
         frame = reserved need frame;
         frames_is = ap (λ (c : Core). c.world.frames) is_after;
         account = record (account_of core caller) { reserved_at = core.pool.version + 1 };
@@ -119,12 +118,12 @@ module _ (always : LawfulAlways) (lone : LoneRunsEnd) (good : PlansHaveGoodCode)
       (subst (λ n. IsInOrder (reserved need frame) (record (account_of core caller) { reserved_at = core.pool.version + 1 }) n caller) (sym (ap (λ (c : Core). c.clock) is_after))
       (record { refused = o.refused; refused_up = o.refused_up; unrefused = o.unrefused; up = o.up; low = o.low; below = o.below; own = o.own })) so_far
   order_step core after calls caller reached so_far (refuses_now need asks few is_after) =
-      let when = asks_when always lone good plan is core calls caller need reached asks in
+      let when = asks_when plan is core calls caller need reached asks in
       let frame = frame_of core.world caller in
       let o = onward frame (refused frame) (account_of core caller) core.clock core.clock caller (omega arith) refl (omega arith) (none_below (refused frame) refl frame.finished) (omega arith) (λ busy. absurd (busy refl)) (so_far caller) in
       let refusal = refusal_of caller frame.index need core.pool in
       let account = record (account_of core caller) { refusals = (account_of core caller).refusals ++ refusal ∷ [] } in
-      changed core after calls caller reached (not_called_past always lone good plan is core.world caller when.1) (record {
+      changed core after calls caller reached (not_called_past plan is core.world caller when.1) (record {
         frame = refused frame;
         frames_is = ap (λ (c : Core). c.world.frames) is_after;
         account = account;
@@ -135,7 +134,7 @@ module _ (always : LawfulAlways) (lone : LoneRunsEnd) (good : PlansHaveGoodCode)
       (record { refused = each_append (IsRefusalOf caller frame.index) (account_of core caller).refusals (refusal ∷ []) o.refused ((refl, from_one core calls caller reached when.1, omega arith), tt); refused_up = up_push (λ (r : Refusal). r.index) refusal (account_of core caller).refusals o.refused_up ((so_far caller).unrefused (called_busy frame.stage when.1)); unrefused = λ busy. absurd (busy refl); up = o.up; low = o.low; below = o.below; own = o.own })) so_far
     where
       from_one : (core : Core) (calls : Calls) (caller : ℕ) → IsReached plan core calls → (frame_of core.world caller).stage ≡ stages.Called → 0 < (frame_of core.world caller).index
-      from_one core calls caller reached called = by (stands_of always good plan is core calls reached caller)
+      from_one core calls caller reached called = by (stands_of plan is core calls reached caller)
         where
           by : Stands plan core.world.heap calls caller (frame_of core.world caller) → 0 < (frame_of core.world caller).index
           by (idles e) = absurd (let i = ap (λ (f : Frame). f.stage) e in clash (frame_of core.world caller).stage called i)
@@ -145,14 +144,14 @@ module _ (always : LawfulAlways) (lone : LoneRunsEnd) (good : PlansHaveGoodCode)
           by (waits call w) = call.from_one
           by (works call e w) = call.from_one
   order_step core after calls caller reached so_far (enters_now enters is_after) =
-      let entering = enters_when always lone good plan is core calls caller reached enters in
+      let entering = enters_when plan is core calls caller reached enters in
       let frame = frame_of core.world caller in
       let same = ready_same plan (record frame { stage = stages.Running; ticket = core.clock + 1; locals = locals_of plan frame.call; turns = fuel_of plan frame.call }) in
       let ticket : (entered plan (core.clock + 1) frame).ticket ≡ core.clock + 1 = same.3 in
       let o = onward frame (entered plan (core.clock + 1) frame) (account_of core caller) core.clock (core.clock + 1) caller (omega arith) same.9 (omega (arith, same.1))
       (λ e. each_map (λ (kept : Finished). kept.ticket ≤ core.clock) (λ (kept : Finished). kept.ticket < (entered plan (core.clock + 1) frame).ticket) frame.finished (λ kept low. omega (arith, low, ticket)) (so_far caller).low)
       (omega (arith, ticket)) (λ busy. subst (λ n. Each (λ (refusal : Refusal). refusal.index < n) (account_of core caller).refusals) (sym same.1) ((so_far caller).unrefused (called_busy frame.stage (ap (λ (f : Frame). f.stage) entering.waits)))) (so_far caller) in
-      changed core after calls caller reached (not_called_past always lone good plan is core.world caller (ap (λ (f : Frame). f.stage) entering.waits)) (record {
+      changed core after calls caller reached (not_called_past plan is core.world caller (ap (λ (f : Frame). f.stage) entering.waits)) (record {
         frame = entered plan (core.clock + 1) frame;
         frames_is = ap (λ (c : Core). c.world.frames) is_after;
         account = account_of core caller;
@@ -161,11 +160,11 @@ module _ (always : LawfulAlways) (lone : LoneRunsEnd) (good : PlansHaveGoodCode)
       })
       (subst (λ n. IsInOrder (entered plan (core.clock + 1) frame) (account_of core caller) n caller) (sym (ap (λ (c : Core). c.clock) is_after)) o) so_far
   order_step core after calls caller reached so_far (finishes_now how over is_after) =
-      let now = finishes_when always lone good plan is core calls caller how reached over in
+      let now = finishes_when plan is core calls caller how reached over in
       let frame = frame_of core.world caller in
       let o = so_far caller in
       let account = record (account_of core caller) { reserved_at = 0; versions = (account_of core caller).versions ++ versions_made frame.spares (account_of core caller) core.pool ∷ [] } in
-      changed core after calls caller reached (has_frame always good plan is core.world caller now) (record {
+      changed core after calls caller reached (has_frame plan is core.world caller now) (record {
         frame = finished how frame;
         frames_is = ap (λ (c : Core). c.world.frames) is_after;
         account = account;
@@ -187,8 +186,8 @@ module _ (always : LawfulAlways) (lone : LoneRunsEnd) (good : PlansHaveGoodCode)
       let one = touch_one plan caller frame (due plan frame) (finite.get core.world.heap name) outcome acts in
       let o = onward frame outcome.0 (account_of core caller) core.clock core.clock caller (omega arith) one.1 (omega (arith, one.2))
       (λ e. subst (λ n. Each (λ (kept : Finished). kept.ticket < n) frame.finished) (sym one.0) ((so_far caller).below (subst (λ n. 0 < n) one.0 e)))
-      (omega (arith, one.0, (so_far caller).own)) (λ busy. subst (λ n. Each (λ (refusal : Refusal). refusal.index < n) (account_of core caller).refusals) (sym one.2) ((so_far caller).unrefused (was_busy (touches_when always lone good plan is core calls caller name reached at)))) (so_far caller) in
-      changed core after calls caller reached (inside (touches_when always lone good plan is core calls caller name reached at)) (record {
+      (omega (arith, one.0, (so_far caller).own)) (λ busy. subst (λ n. Each (λ (refusal : Refusal). refusal.index < n) (account_of core caller).refusals) (sym one.2) ((so_far caller).unrefused (was_busy (touches_when plan is core calls caller name reached at)))) (so_far caller) in
+      changed core after calls caller reached (inside (touches_when plan is core calls caller name reached at)) (record {
         frame = outcome.0;
         frames_is = ap (λ (c : Core). c.world.frames) is_after;
         account = account_of core caller;
@@ -197,12 +196,12 @@ module _ (always : LawfulAlways) (lone : LoneRunsEnd) (good : PlansHaveGoodCode)
       })
       (subst (λ n. IsInOrder outcome.0 (account_of core caller) n caller) (sym (ap (λ (c : Core). c.clock) is_after)) o) so_far
     where
-      inside : Touches always lone good plan is core caller → caller < length core.world.frames
-      inside (runs_on e) = has_frame always good plan is core.world caller e
-      inside (at_root number takes z called) = not_called_past always lone good plan is core.world caller called
+      inside : Touches plan is core caller → caller < length core.world.frames
+      inside (runs_on e) = has_frame plan is core.world caller e
+      inside (at_root number takes z called) = not_called_past plan is core.world caller called
 
-      was_busy : Touches always lone good plan is core caller → (frame_of core.world caller).stage ≢ stages.Idle
-      was_busy (runs_on e) = (entered_busy plan core.world.heap calls caller (frame_of core.world caller) (stands_of always good plan is core calls reached caller) e).0
+      was_busy : Touches plan is core caller → (frame_of core.world caller).stage ≢ stages.Idle
+      was_busy (runs_on e) = (entered_busy plan core.world.heap calls caller (frame_of core.world caller) (stands_of plan is core calls reached caller) e).0
       was_busy (at_root number takes z called) = called_busy (frame_of core.world caller).stage called
 
   pub all_in_order : (core : Core) (calls : Calls) → IsReached plan core calls → (c : ℕ) → OrderedIn core c
@@ -211,11 +210,11 @@ module _ (always : LawfulAlways) (lone : LoneRunsEnd) (good : PlansHaveGoodCode)
       (record { refused = tt; refused_up = tt; unrefused = λ busy. tt; up = tt; low = tt; below = λ e. tt; own = omega arith }))
   all_in_order core calls (begins {core = before} {calls = so_far} caller call reached may) c =
       let frame = frame_of before.world caller in
-      let rests = idle_rests plan before.world.heap so_far caller frame (stands_of always good plan is before so_far reached caller) may.idle in
+      let rests = idle_rests plan before.world.heap so_far caller frame (stands_of plan is before so_far reached caller) may.idle in
       let earlier = all_in_order before so_far reached in
       let o = onward frame (begun call frame) (account_of before caller) before.clock before.clock caller (omega arith) refl (omega arith) (none_below (begun call frame) refl frame.finished) (omega arith)
       (λ busy. each_map (IsRefusalOf caller frame.index) (λ (refusal : Refusal). refusal.index < frame.index + 1) (account_of before caller).refusals (λ r is_one. omega (arith, is_one.2)) (earlier caller).refused) (earlier caller) in
-      changed before (with_call before caller call) so_far caller reached (omega (arith, may.is_caller.to_last, (always plan before so_far is reached).sound.frames)) (record {
+      changed before (with_call before caller call) so_far caller reached (omega (arith, may.is_caller.to_last, (lawful_always plan before so_far is reached).sound.frames)) (record {
         frame = begun call frame;
         frames_is = refl;
         account = account_of before caller;

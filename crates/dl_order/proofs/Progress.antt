@@ -25,7 +25,6 @@ use Rattle.dl_core.specs.declared.objects.Mark.TheVariants as marks
 use Rattle.dl_core.specs.declared.objects.Object.{Object}
 use Rattle.dl_core.specs.declared.stages.Stage.{Stage}
 use Rattle.dl_core.specs.declared.stages.Stage.TheVariants as stages
-use Rattle.dl_core.specs.Codes.{PlansHaveGoodCode}
 use Rattle.dl_core.specs.Heaps.{plain_object, IsHeld}
 use Rattle.dl_core.specs.Plans.{Plan, IsPlan, source_of, roots_of, roots_among, put_root, put_in}
 use Rattle.dl_core.specs.Frames.{Frame, IsEntered, idle}
@@ -37,10 +36,10 @@ use Rattle.dl_core.specs.Core.{Core, Shared, frame_of, rules_of, acted, with_eve
 use Rattle.dl_core.specs.Reached.{Calls, IsReached}
 use Rattle.dl_core.specs.Reach.{target_of_take}
 use Rattle.dl_core.specs.Sound.{Stands, idles, waits, works, HasCall}
-use Rattle.dl_core.specs.Laws.{LawfulAlways, LoneRunsEnd}
 use Rattle.dl_core.proofs.Diamond.{step→moves}
 use Rattle.dl_core.proofs.Names.{same_some, no_some}
 use Rattle.dl_core.proofs.Plain.{get_plain}
+use Rattle.dl_core.proofs.LawfulAlways.{lawful_always}
 use Rattle.dl_order.specs.Measure.{SomeoneMoves}
 use Rattle.dl_order.proofs.Always.{serial_on}
 use Rattle.dl_order.proofs.Lists.{Each}
@@ -76,19 +75,19 @@ each_at_place P [] i n e there = absurd (no_some there)
 each_at_place P (m ∷ ns) zero n e there = subst P (same_some there) e.0
 each_at_place P (m ∷ ns) (suc i) n e there = each_at_place P ns i n e.1 there
 
-root_of_call : (plan : Plan) (call : Call) (at number : ℕ) → IsCallOf (source_of plan) call → slice_get (roots_of plan call) at ≡ Some number → (kind : ℕ) × IsRootOf (source_of plan) kind (root number)
+pub root_of_call : (plan : Plan) (call : Call) (at number : ℕ) → IsCallOf (source_of plan) call → slice_get (roots_of plan call) at ≡ Some number → (kind : ℕ) × IsRootOf (source_of plan) kind (root number)
 root_of_call plan call at number fits there =
     let same : roots_of plan call ≡ roots_among (zip fits.op.params call.args) = ap (λ (o : Option OpDecl). option_map_or (λ (op : OpDecl). roots_among (zip op.params call.args)) o []) fits.declared in
     each_at_place (λ n. (kind : ℕ) × IsRootOf (source_of plan) kind (root n)) (roots_among (zip fits.op.params call.args)) at number (all_roots (source_of plan) fits.op.params call.args fits.fits) (ap (λ ns. slice_get ns at) (sym same) ∙ there)
 
 -- ---- someone moves
 
-module _ (always : LawfulAlways) (lone : LoneRunsEnd) (good : PlansHaveGoodCode) (plan : Plan) (is : IsPlan plan) (core : Core) (calls : Calls) (reached : IsReached plan core calls) where
+module _ (plan : Plan) (is : IsPlan plan) (core : Core) (calls : Calls) (reached : IsReached plan core calls) where
   abbrev MovesNow : Type 0
   MovesNow = (mover : ℕ) × (after : Core) × (answer : Progress) × (step plan core mover ≡ Some (after, answer))
 
   first_runs : (caller : ℕ) (end : Shared) → IsEntered (frame_of core.world caller) → Alone (rules_of plan) caller core.world end → MovesNow
-  first_runs caller end e (over f) = absurd (nowhere_unentered always good plan is core calls reached caller f e)
+  first_runs caller end e (over f) = absurd (nowhere_unentered plan is core calls reached caller f e)
   first_runs caller end e (then_on {mid = on} s further) = let made = moves_step plan core caller on (step→moves (rules_of plan) core.world caller on s) in (caller, made.after, made.answer, made.steps)
 
   -- the number of the root that a caller with a call in hand takes next
@@ -96,7 +95,7 @@ module _ (always : LawfulAlways) (lone : LoneRunsEnd) (good : PlansHaveGoodCode)
   wanted frame = option_map_or (λ (n : ℕ). n) (slice_get (roots_of plan frame.call) frame.taken) 0
 
   pub stands_called : (caller : ℕ) → (frame_of core.world caller).stage ≡ stages.Called → (HasCall plan calls caller (frame_of core.world caller)) × ((frame_of core.world caller).ticket ≡ 0) × IsCalledFor plan (frame_of core.world caller) (due plan (frame_of core.world caller))
-  stands_called caller called = by (stands_of always good plan is core calls reached caller)
+  stands_called caller called = by (stands_of plan is core calls reached caller)
     where
       clash : (s : Stage) → s ≡ stages.Called → s ≡ stages.Idle → ⊥
       clash s p q = cc
@@ -122,8 +121,8 @@ module _ (always : LawfulAlways) (lone : LoneRunsEnd) (good : PlansHaveGoodCode)
         by n no_more = omega (arith, no_more)
 
     holder_called : (holder : ℕ) (name : Name) → IsHeld core.world.heap holder name → (frame_of core.world holder).stage ≡ stages.Called
-    holder_called holder name held = elim (unentered plan core.world.heap calls holder (frame_of core.world holder) (stands_of always good plan is core calls reached holder) (zero_ticket holder)) [
-      | inl i ↦ absurd ((always plan core calls is reached).lawful.who_holds.idle holder name i held)
+    holder_called holder name held = elim (unentered plan core.world.heap calls holder (frame_of core.world holder) (stands_of plan is core calls reached holder) (zero_ticket holder)) [
+      | inl i ↦ absurd ((lawful_always plan core calls is reached).lawful.who_holds.idle holder name i held)
       | inr called ↦ called
     ]
 
@@ -152,8 +151,8 @@ module _ (always : LawfulAlways) (lone : LoneRunsEnd) (good : PlansHaveGoodCode)
         by called z (for_places need e all few) = someone (asks_moves holder need e)
         by called z (for_a_ticket e enough no_more) = someone (enters_moves holder e)
         by called z (for_a_root higher_one e there) =
-            let higher = for_roots plan core calls holder is (always plan core calls is reached) good (root higher_one) (root number) z (ap target_of_take e) held in
-            behind_one holder called (omega (arith, higher.2, here, wanted_is (frame_of core.world holder) higher_one there))
+            let higher = for_roots plan core calls holder is (lawful_always plan core calls is reached) (root higher_one) z (ap target_of_take e) in
+            behind_one holder called (omega (arith, (higher.1 (root number) held).1, here, wanted_is (frame_of core.world holder) higher_one there))
 
     turn_of : (caller : ℕ) → (frame_of core.world caller).stage ≡ stages.Called → Turn caller
     turn_of caller called = let stands = stands_called caller called in by stands.0 stands.2
@@ -170,7 +169,7 @@ module _ (always : LawfulAlways) (lone : LoneRunsEnd) (good : PlansHaveGoodCode)
                   ∙ ap (λ o. with_event core caller (root number) (Some (events.TakeRoot number)) (act plan caller (frame_of core.world caller) (TakesRoot number) o)) at
                   ∙ ap (λ k. with_event core caller (root number) (Some (events.TakeRoot number)) (take_root caller number (frame_of core.world caller) object k)) m,
             )
-        at_root number takes there object at (marks.Sealed ticket) m = absurd (let hidden = ((always plan core calls is reached).sound.tickets.seals (root number) object ticket at m).1 in omega (arith, hidden))
+        at_root number takes there object at (marks.Sealed ticket) m = absurd (let hidden = ((lawful_always plan core calls is reached).sound.tickets.seals (root number) object ticket at m).1 in omega (arith, hidden))
         at_root number takes there object at (marks.Held holder) m = blocked caller number holder (wanted_is (frame_of core.world caller) number there) (record { object = object; there = at; held = m })
 
         found : (number : ℕ) → due plan (frame_of core.world caller) ≡ TakesRoot number → slice_get (roots_of plan (frame_of core.world caller).call) (frame_of core.world caller).taken ≡ Some number
@@ -183,12 +182,12 @@ module _ (always : LawfulAlways) (lone : LoneRunsEnd) (good : PlansHaveGoodCode)
         by call (for_a_ticket e enough no_more) = someone (enters_moves caller e)
         by call (for_a_root number e there) =
             let root_is = root_of_call plan (frame_of core.world caller).call (frame_of core.world caller).taken number call.fits there in
-            let o = (always plan core calls is reached).sound.heap.roots root_is.0 (root number) root_is.1 in
+            let o = (lawful_always plan core calls is reached).sound.heap.roots root_is.0 (root number) root_is.1 in
             found number e there (finite.get core.world.heap (root number)) refl o.0 (sym (get_plain core.world.heap (root number)) ∙ o.1)
 
     -- roots rise along those that wait, and there are no more of them than the callers want
     chain : (fuel caller : ℕ) → (frame_of core.world caller).stage ≡ stages.Called → sum_by wanted core.world.frames < wanted (frame_of core.world caller) + fuel → MovesNow
-    chain zero caller called enough = absurd (let within = get_or-le-sum_by wanted core.world.frames caller idle (not_called_past always lone good plan is core.world caller called) in omega (arith, within, enough))
+    chain zero caller called enough = absurd (let within = get_or-le-sum_by wanted core.world.frames caller idle (not_called_past plan is core.world caller called) in omega (arith, within, enough))
     chain (suc fuel) caller called enough = elim (turn_of caller called) [
       | someone moves ↦ moves
       | behind_one holder holder_is lt ↦ chain fuel holder holder_is (omega (arith, lt, enough))
@@ -198,16 +197,16 @@ module _ (always : LawfulAlways) (lone : LoneRunsEnd) (good : PlansHaveGoodCode)
     called_moves caller called = chain (sum_by wanted core.world.frames + 1) caller called (omega arith)
 
   someone_here : (caller : ℕ) → (frame_of core.world caller).stage ≢ stages.Idle → MovesNow
-  someone_here caller busy = let serial = serial_on always lone good plan is core calls reached in by serial.end serial.callers serial.row serial.runs
+  someone_here caller busy = let serial = serial_on plan is core calls reached in by serial.end serial.callers serial.row serial.runs
     where
       by : (end : Shared) (callers : List ℕ) → IsRow core.world core.clock callers → InTurn (rules_of plan) callers core.world end → MovesNow
       by end [] row none =
           let nobody : (c : ℕ) → IsEntered (frame_of core.world c) → ⊥ = λ c e. row.all c e in
-          elim (unentered plan core.world.heap calls caller (frame_of core.world caller) (stands_of always good plan is core calls reached caller) (zero_ticket nobody caller)) [
+          elim (unentered plan core.world.heap calls caller (frame_of core.world caller) (stands_of plan is core calls reached caller) (zero_ticket nobody caller)) [
             | inl i ↦ absurd (busy i)
             | inr called ↦ called_moves nobody caller called
           ]
       by end (first ∷ rest) row (next {mid = mid} run more) = first_runs first mid row.entered.0 run
 
-pub someone_moves : LawfulAlways → LoneRunsEnd → PlansHaveGoodCode → SomeoneMoves
-someone_moves always lone good plan core calls caller is reached busy = someone_here always lone good plan is core calls reached caller busy
+pub someone_moves : SomeoneMoves
+someone_moves plan core calls caller is reached busy = someone_here plan is core calls reached caller busy

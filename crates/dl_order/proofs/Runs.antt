@@ -1,15 +1,31 @@
--- How many steps are left to the lone runs of all when one caller has made a step.
+-- A step of a caller does not change where the lone runs of all end, and takes one step off them.
 use Rattle.std.proofs.Common.{◌≡◌, ◌≢◌, inl, inr, length, ℕ, ◌+◌, List, [], ◌∷◌, ◌++◌, Option, Some, refl, sym, ap, ◌∙◌, subst, arith}
 use Rattle.std.proofs.lemmas.List.{get_or-set_other, length-set}
-use Rattle.dl_core.specs.Steps.{World, Nowhere, Rules, frame_by, step_by, Alone, over, then_on, InTurn, none, next}
-use Rattle.dl_core.proofs.Diamond.{Moves, moves→step, step→moves, diamond}
-use Rattle.dl_core.proofs.Runs.{AllOlder, IsOrdered, IsNone}
+use Rattle.dl_core.specs.Steps.{World, Nowhere, Rules, frame_by, with_frame_by, step_by, Alone, over, then_on, InTurn, none, next}
+use Rattle.dl_core.proofs.Diamond.{Moves, moves→step, step→moves, Clear, diamond, frame_aside}
 use Rattle.dl_core.proofs.Names.{same_number}
 use Rattle.dl_order.specs.Lengths.{steps_alone, steps_in_turn}
 use Rattle.dl_order.proofs.Lists.{In}
 
 one_some : {A : Type 0} {a b : A} {o : Option A} → o ≡ Some a → o ≡ Some b → a ≡ b
 one_some p q = cc
+
+-- these callers are all older than another
+abbrev pub AllOlder : {Frame : Type 0} → (World Frame → ℕ → ℕ → Type 0) → World Frame → ℕ → List ℕ → Type 0
+AllOlder Older w i [] = Unit {0}
+AllOlder Older w i (j ∷ js) = Older w j i × AllOlder Older w i js
+
+-- what the proof needs of an invariant: steps keep it, and who is older; and steps of an older and a younger caller are clear of each other
+pub record IsOrdered {Frame : Type 0} (r : Rules Frame) (Inv : World Frame → Type 0) (Older : World Frame → ℕ → ℕ → Type 0) : Type 0 where
+  pub kept : (w w' : World Frame) (c : ℕ) → Inv w → Moves r w c w' → Inv w'
+  pub older : (w w' : World Frame) (c i j : ℕ) → Inv w → Moves r w c w' → Older w j i → Older w' j i
+  pub apart : (w : World Frame) (i j : ℕ) → Older w j i → i ≢ j
+  pub clear : (w wi wj : World Frame) (i j : ℕ) → Inv w → Older w j i → (mi : Moves r w i wi) (mj : Moves r w j wj) → Clear r w.heap mi.touch mj.touch
+
+-- a caller is none of these
+abbrev pub IsNone : ℕ → List ℕ → Type 0
+IsNone i [] = Unit {0}
+IsNone i (j ∷ js) = (i ≢ j) × IsNone i js
 
 module _ {Frame : Type 0} (r : Rules Frame) where
   -- a lone run of so many steps
@@ -73,7 +89,7 @@ module _ {Frame : Type 0} (r : Rules Frame) where
   turn_over js w d (next {caller = j} {callers = cs} {mid = mid} a rest) k (inr there) = turn_over cs mid d rest k there
 
   -- a caller whose last step this was has no lone run left
-  last_run : (i : ℕ) (w d : World Frame) → r.aim (frame_by r w i) ≡ Nowhere → (count : ℕ) → AloneIn count i w d → (w ≡ d) × (count ≡ 0)
+  pub last_run : (i : ℕ) (w d : World Frame) → r.aim (frame_by r w i) ≡ Nowhere → (count : ℕ) → AloneIn count i w d → (w ≡ d) × (count ≡ 0)
   last_run i w d e count (over f, k) = (refl, sym k)
   last_run i w d e count (then_on {mid = mid} s rest, k) = absurd (not_due w mid i e s)
 
@@ -98,6 +114,24 @@ module _ {Frame : Type 0} (r : Rules Frame) where
       let on = turn_one ks mid d d' rest (steps_in_turn r rest') (subst (λ v. InTurnIn (steps_in_turn r rest') ks v d') (sym first.0) (rest', refl)) in
       (on.0, omega (arith, first.1, on.1, k))
 
+  other_frame : (w : World Frame) (i j : ℕ) (f : Frame) → i ≢ j → frame_by r (with_frame_by r w i f) j ≡ frame_by r w j
+  other_frame w i j f n = get_or-set_other w.frames i j f r.idle (λ e. n (sym e))
+
+  -- a change of another's frame alone, as by a begin, a reservation or an entry, goes through a lone run
+  pub alone_aside : (i j : ℕ) (w d : World Frame) → Alone r j w d → (f : Frame) → i ≢ j → Alone r j (with_frame_by r w i f) (with_frame_by r d i f)
+  alone_aside i j w d (over e) f n = over (ap r.aim (other_frame w i j f n) ∙ e)
+  alone_aside i j w d (then_on {mid = mid} s rest) f n =
+      then_on (moves→step r (with_frame_by r w i f) j (with_frame_by r mid i f) (frame_aside r w mid i j f n (step→moves r w j mid s))) (alone_aside i j mid d rest f n)
+
+  pub turns_aside : (i : ℕ) (js : List ℕ) (w d : World Frame) → InTurn r js w d → (f : Frame) → IsNone i js → InTurn r js (with_frame_by r w i f) (with_frame_by r d i f)
+  turns_aside i js w d none f n = none
+  turns_aside i js w d (next {caller = c} {callers = cs} {mid = mid} a rest) f n = next (alone_aside i c w mid a f n.0) (turns_aside i cs mid d rest f n.1)
+
+  -- lone runs, and then those of others
+  pub turns_then : (js ks : List ℕ) (w d e : World Frame) → InTurn r js w d → InTurn r ks d e → InTurn r (js ++ ks) w e
+  turns_then js ks w d e none b = b
+  turns_then js ks w d e (next {callers = cs} {mid = mid} a rest) b = next a (turns_then cs ks mid d e rest b)
+
 module _ {Frame : Type 0} (r : Rules Frame) (Inv : World Frame → Type 0) (Older : World Frame → ℕ → ℕ → Type 0) (o : IsOrdered r Inv Older) where
   -- past a whole lone run
   past_alone : (i j : ℕ) (w d : World Frame) (run : Alone r j w d) → (wi : World Frame) → Inv w → Older w j i → Moves r w i wi → (d' : World Frame) × AloneIn r (steps_alone r run) j wi d' × Moves r d i d' × Inv d
@@ -118,8 +152,16 @@ module _ {Frame : Type 0} (r : Rules Frame) (Inv : World Frame → Type 0) (Olde
   all_keep j w d run v i [] a = tt
   all_keep j w d run v i (k ∷ ks) a = (alone_keeps j w d run v k i a.0, all_keep j w d run v i ks a.1)
 
+  -- past the lone runs of all that are older
+  pub past_all : (js : List ℕ) (i : ℕ) (w d : World Frame) → InTurn r js w d → (wi : World Frame) → Inv w → AllOlder Older w i js → Moves r w i wi → (d' : World Frame) × InTurn r js wi d' × Moves r d i d' × Inv d
+  past_all js i w d none wi v older m = (wi, none, m, v)
+  past_all js i w d (next {caller = j} {callers = cs} {mid = mid} a rest) wi v older m =
+      let on = past_alone i j w mid a wi v older.0 m in
+      let further = past_all cs i mid d rest on.0 on.3 (all_keep j w mid a v i cs older.1) on.2 in
+      (further.0, next on.1.0 further.1, further.2, further.3)
+
   -- the invariant holds where lone runs end
-  alone_inv : (j : ℕ) (w d : World Frame) → Alone r j w d → Inv w → Inv d
+  pub alone_inv : (j : ℕ) (w d : World Frame) → Alone r j w d → Inv w → Inv d
   alone_inv j w d (over f) v = v
   alone_inv j w d (then_on {mid = mid} s rest) v = alone_inv j mid d rest (o.kept w mid j v (step→moves r w j mid s))
 

@@ -20,7 +20,6 @@ use Rattle.dl_core.specs.declared.objects.Object.{Object}
 use Rattle.dl_core.specs.declared.stages.Finished.{Finished}
 use Rattle.dl_core.specs.declared.stages.Stage.{Stage}
 use Rattle.dl_core.specs.declared.stages.Stage.TheVariants as stages
-use Rattle.dl_core.specs.Codes.{PlansHaveGoodCode}
 use Rattle.dl_core.specs.Heaps.{put_at, plain, plain_object, is_sealed}
 use Rattle.dl_core.specs.Plans.{Plan, IsPlan, source_of, allocs_of, roots_of}
 use Rattle.dl_core.specs.Frames.{Frame, IsEntered, idle, at_rest, waiting}
@@ -32,17 +31,18 @@ use Rattle.dl_core.specs.Steps.{Inside, At, InTurn}
 use Rattle.dl_core.specs.Core.{Core, Shared, frame_of, rules_of, aim_of, with_frame}
 use Rattle.dl_core.specs.Reached.{Calls, calls_of, IsReached}
 use Rattle.dl_core.specs.Reach.{ticket_in}
-use Rattle.dl_core.specs.Laws.{IsKept, LawfulAlways, LoneRunsEnd, AreRunning, history_of}
+use Rattle.dl_core.specs.Laws.{IsKept}
+use Rattle.dl_order.specs.Serial.{AreRunning, history_of}
 use Rattle.dl_core.proofs.Diamond.{Touch, Leaves, Puts, touched, Acts, Moves}
 use Rattle.dl_core.proofs.Maps.{names, put_at_same}
 use Rattle.dl_core.proofs.Names.{same_number, same_some, no_some}
 use Rattle.dl_core.proofs.Plain.{plain_put, get_plain}
-use Rattle.dl_core.proofs.Runs.{AllOlder, IsNone, turns_aside, past_all}
+use Rattle.dl_core.proofs.LawfulAlways.{lawful_always}
 use Rattle.dl_order.specs.Lengths.{steps_in_turn}
 use Rattle.dl_order.proofs.Histories.{StandsIn, legal_alike, legal_more, replay_more, returns_more, replay_push, legal_push, returns_push, history_stays}
 use Rattle.dl_order.proofs.Keeping.{touch_one}
 use Rattle.dl_order.proofs.Lists.{Each, In, Up, each_of, each_in, each_map, each_less, each_before, in_contains, contains_in, in_less, cut_at, up_less, up_before, up_others, up_pairs, up_same}
-use Rattle.dl_order.proofs.Runs.{InTurnIn, moves_long, turn_frame, turn_long, same_end, without}
+use Rattle.dl_order.proofs.Runs.{AllOlder, IsNone, turns_aside, past_all, InTurnIn, moves_long, turn_frame, turn_long, same_end, without}
 use Rattle.dl_order.proofs.Worlds.{IsWorldOf, IsOther, new_frame, same_frame, ordered}
 
 -- ---- the callers that have entered, in a row
@@ -184,9 +184,9 @@ call_begun calls zero index call c i e = absurd (omega arith)
 call_begun calls (suc place) zero call c i e = absurd (omega arith)
 call_begun calls (suc place) (suc index) call c i e = let one : suc index - 1 ≡ index = omega arith in looked_up calls place index call (subst (λ n. slice_get (get_or calls place []) n ≡ Some call) one e)
 
-module _ (always : LawfulAlways) (lone : LoneRunsEnd) (good : PlansHaveGoodCode) (plan : Plan) (is : IsPlan plan) where
+module _ (plan : Plan) (is : IsPlan plan) where
   kept_of : (core : Core) (calls : Calls) → IsReached plan core calls → IsKept plan core calls
-  kept_of core calls reached = always plan core calls is reached
+  kept_of core calls reached = lawful_always plan core calls is reached
 
   pub world_of : (core : Core) (calls : Calls) → IsReached plan core calls → IsWorldOf plan calls core.clock core.world
   world_of core calls reached = record { core = core; is = refl; clock_is = refl; reached = reached }
@@ -250,7 +250,7 @@ module _ (always : LawfulAlways) (lone : LoneRunsEnd) (good : PlansHaveGoodCode)
       let cut = cut_at caller left.callers (left.row.all caller entered) in
       let row : IsRow core.world core.clock (cut.before ++ caller ∷ cut.behind) = subst (IsRow core.world core.clock) cut.is left.row in
       let runs : InTurnIn (rules_of plan) count (cut.before ++ caller ∷ cut.behind) core.world end = subst (λ cs. InTurnIn (rules_of plan) count cs core.world end) cut.is left.runs in
-      let on = same_end (rules_of plan) (IsWorldOf plan calls core.clock) IsOther (ordered always good plan is calls core.clock) cut.before caller cut.behind core.world end runs.0 after.world (world_of core calls reached) (older_part core caller cut.before cut.behind row) m in (
+      let on = same_end (rules_of plan) (IsWorldOf plan calls core.clock) IsOther (ordered plan is calls core.clock) cut.before caller cut.behind core.world end runs.0 after.world (world_of core calls reached) (older_part core caller cut.before cut.behind row) m in (
         on.0,
         sym runs.1 ∙ on.1,
         record {
@@ -263,7 +263,7 @@ module _ (always : LawfulAlways) (lone : LoneRunsEnd) (good : PlansHaveGoodCode)
       tickets : (c : ℕ) → ticket_in after.world c ≡ ticket_in core.world c
       tickets c = elim (same_number caller c) [
         | inl here ↦ ap (ticket_in after.world) (sym here) ∙ same ∙ ap (ticket_in core.world) here
-        | inr apart ↦ ap (λ (f : Frame). f.ticket) (same_frame always good plan is core.world after.world caller c m apart)
+        | inr apart ↦ ap (λ (f : Frame). f.ticket) (same_frame plan is core.world after.world caller c m apart)
       ]
 
   pub is_over : (core : Core) (calls : Calls) (caller : ℕ) (after : Core) (end : Shared) (count : ℕ) (index : ℕ) (list : List Finished) → IsReached plan core calls → IsLeft plan core.world core.clock end count → IsEntered (frame_of core.world caller)
@@ -272,7 +272,7 @@ module _ (always : LawfulAlways) (lone : LoneRunsEnd) (good : PlansHaveGoodCode)
       let cut = cut_at caller left.callers (left.row.all caller entered) in
       let row : IsRow core.world core.clock (cut.before ++ caller ∷ cut.behind) = subst (IsRow core.world core.clock) cut.is left.row in
       let runs : InTurnIn (rules_of plan) count (cut.before ++ caller ∷ cut.behind) core.world end = subst (λ cs. InTurnIn (rules_of plan) count cs core.world end) cut.is left.runs in
-      let on = without (rules_of plan) (IsWorldOf plan calls core.clock) IsOther (ordered always good plan is calls core.clock) cut.before caller cut.behind core.world end runs.0 after.world (world_of core calls reached) (older_part core caller cut.before cut.behind row) m
+      let on = without (rules_of plan) (IsWorldOf plan calls core.clock) IsOther (ordered plan is calls core.clock) cut.before caller cut.behind core.world end runs.0 after.world (world_of core calls reached) (older_part core caller cut.before cut.behind row) m
       (ap (λ (f : Frame). aim_of (due plan f)) rests) in
       let others : Each (λ c. ticket_in core.world c ≢ ticket_in core.world caller) (cut.before ++ cut.behind) = up_others (ticket_in core.world) caller cut.before cut.behind row.rises in
       let same : (c : ℕ) → In c (cut.before ++ cut.behind) → ticket_in after.world c ≡ ticket_in core.world c
@@ -294,7 +294,7 @@ module _ (always : LawfulAlways) (lone : LoneRunsEnd) (good : PlansHaveGoodCode)
       )
     where
       stays : (c : ℕ) → caller ≢ c → ticket_in after.world c ≡ ticket_in core.world c
-      stays c apart = ap (λ (f : Frame). f.ticket) (same_frame always good plan is core.world after.world caller c m apart)
+      stays c apart = ap (λ (f : Frame). f.ticket) (same_frame plan is core.world after.world caller c m apart)
 
       low_as : {a b k l : ℕ} → a ≡ b → k ≡ l → b ≤ l → a ≤ k
       low_as p q le = omega arith
@@ -349,7 +349,7 @@ module _ (always : LawfulAlways) (lone : LoneRunsEnd) (good : PlansHaveGoodCode)
       let lt = not_called_past core.world caller called in
       let older : AllOlder IsOther core.world caller serial.callers = all_older core.world caller serial.callers (each_map (λ c. IsEntered (frame_of core.world c)) (λ c. (caller ≢ c) × IsEntered (frame_of core.world c)) serial.callers
       (λ c e. (λ same. omega (arith, z, ap (ticket_in core.world) same, e), e)) serial.row.entered) in
-      let past = past_all (rules_of plan) (IsWorldOf plan calls core.clock) IsOther (ordered always good plan is calls core.clock) serial.callers caller core.world serial.end serial.runs after.world (world_of core calls reached) older m in
+      let past = past_all (rules_of plan) (IsWorldOf plan calls core.clock) IsOther (ordered plan is calls core.clock) serial.callers caller core.world serial.end serial.runs after.world (world_of core calls reached) older m in
       let stays = turn_frame (rules_of plan) serial.callers core.world serial.end serial.runs caller (none_entered core.world caller serial.callers z serial.row.entered) in
       let takes_end : due plan (frame_of serial.end caller) ≡ TakesRoot number = ap (due plan) stays ∙ takes in
       let lt_end : caller < length serial.end.frames = subst (λ n. caller < n) (sym (turn_long (rules_of plan) serial.callers core.world serial.end serial.runs)) lt in
@@ -367,13 +367,13 @@ module _ (always : LawfulAlways) (lone : LoneRunsEnd) (good : PlansHaveGoodCode)
     where
       tickets : caller < length core.world.frames → (c : ℕ) → ticket_in after.world c ≡ ticket_in core.world c
       tickets lt c = elim (same_number caller c) [
-        | inl here ↦ ap (ticket_in after.world) (sym here) ∙ ap (λ (f : Frame). f.ticket) (new_frame always good plan is core.world after.world caller m lt) ∙ (root_one core.world after.world caller number m takes).0 ∙ ap (ticket_in core.world) here
-        | inr apart ↦ ap (λ (f : Frame). f.ticket) (same_frame always good plan is core.world after.world caller c m apart)
+        | inl here ↦ ap (ticket_in after.world) (sym here) ∙ ap (λ (f : Frame). f.ticket) (new_frame plan is core.world after.world caller m lt) ∙ (root_one core.world after.world caller number m takes).0 ∙ ap (ticket_in core.world) here
+        | inr apart ↦ ap (λ (f : Frame). f.ticket) (same_frame plan is core.world after.world caller c m apart)
       ]
 
       lists : (d : Shared) (n : Moves (rules_of plan) serial.end caller d) → caller < length serial.end.frames → due plan (frame_of serial.end caller) ≡ TakesRoot number → (c : ℕ) → (frame_of d c).finished ≡ (frame_of serial.end c).finished
       lists d n lt takes_end c = elim (same_number caller c) [
         | inl here ↦
-            ap (λ k. (frame_of d k).finished) (sym here) ∙ ap (λ (f : Frame). f.finished) (new_frame always good plan is serial.end d caller n lt) ∙ (root_one serial.end d caller number n takes_end).1 ∙ ap (λ k. (frame_of serial.end k).finished) here
-        | inr apart ↦ ap (λ (f : Frame). f.finished) (same_frame always good plan is serial.end d caller c n apart)
+            ap (λ k. (frame_of d k).finished) (sym here) ∙ ap (λ (f : Frame). f.finished) (new_frame plan is serial.end d caller n lt) ∙ (root_one serial.end d caller number n takes_end).1 ∙ ap (λ k. (frame_of serial.end k).finished) here
+        | inr apart ↦ ap (λ (f : Frame). f.finished) (same_frame plan is serial.end d caller c n apart)
       ]

@@ -26,7 +26,6 @@ use Rattle.dl_core.specs.declared.answers.Progress.TheVariants as progress
 use Rattle.dl_core.specs.declared.objects.Mark.{Mark}
 use Rattle.dl_core.specs.declared.objects.Mark.TheVariants as marks
 use Rattle.dl_core.specs.declared.objects.Object.{Object}
-use Rattle.dl_core.specs.Codes.{PlansHaveGoodCode}
 use Rattle.dl_core.specs.Heaps.{put_at, plain, plain_object, is_sealed, IsSealed}
 use Rattle.dl_core.specs.Plans.{Plan, IsPlan, source_of}
 use Rattle.dl_core.specs.declared.dues.Due.{Due}
@@ -37,13 +36,14 @@ use Rattle.dl_core.specs.Steps.{Alone, over, then_on, InTurn, none, next}
 use Rattle.dl_core.specs.Core.{Core, Shared, Stepped, frame_of, rules_of, acted, with_event, touches, refuses, reserves, enters, finishes, step_due, step}
 use Rattle.dl_core.specs.Reached.{Calls, IsReached, with_begun, starts, begins, steps, no_calls}
 use Rattle.dl_core.specs.Reach.{ticket_in}
-use Rattle.dl_core.specs.Laws.{LawfulAlways, LoneRunsEnd, NoSeal}
+use Rattle.dl_order.specs.Serial.{NoSeal}
 use Rattle.dl_core.proofs.Clearance.{moved_row}
 use Rattle.dl_core.proofs.Diamond.{Touch, Leaves, Puts, touched, Acts, Moves, step→moves}
 use Rattle.dl_core.proofs.Maps.{names, get_here}
 use Rattle.dl_core.proofs.Names.{same_some, no_some}
 use Rattle.dl_core.proofs.Others.{sealed_kept}
 use Rattle.dl_core.proofs.Plain.{get_plain}
+use Rattle.dl_core.proofs.LawfulAlways.{lawful_always}
 use Rattle.dl_order.proofs.Always.{serial_on}
 use Rattle.dl_order.proofs.Worlds.{IsWorldOf, ordered}
 use Rattle.dl_order.proofs.Serial.{world_of}
@@ -112,17 +112,17 @@ calls_fit plan core calls (steps {core = before} who answer reached s) caller in
 other_than : (c : ℕ) → c + 1 ≢ c
 other_than c e = omega (arith, e)
 
-module _ (always : LawfulAlways) (lone : LoneRunsEnd) (good : PlansHaveGoodCode) (plan : Plan) (is : IsPlan plan) where
+module _ (plan : Plan) (is : IsPlan plan) where
   seal_stays_here : (core : Core) (calls : Calls) (after : Shared) (caller : ℕ) (name : Name) → IsReached plan core calls → Moves (rules_of plan) core.world caller after → IsSealed core.world.heap name → IsSealed after.heap name
   seal_stays_here core calls after caller name reached m s = by m.touch m.acts m.is
     where
       by : (touch : Touch) → Acts (rules_of plan) core.world caller touch m.frame → after ≡ record { heap = touched core.world.heap touch; frames = set core.world.frames caller m.frame } → IsSealed after.heap name
       by Leaves acts at = subst (λ (w : Shared). IsSealed w.heap name) (sym at) s
       by (Puts x found) acts at =
-          let kept = always plan core calls is reached in
+          let kept = lawful_always plan core calls is reached in
           subst (λ (w : Shared). IsSealed w.heap name) (sym at)
           (sealed_kept core.world.heap (ticket_in core.world) kept.sound.tickets.own caller x (finite.get core.world.heap x) found
-          (moved_row plan core calls is kept.lawful kept.sound (good plan is) caller x found m.frame acts) refl (caller + 1) (other_than caller) name s)
+          (moved_row plan core calls is kept.lawful kept.sound caller x found m.frame acts) refl (caller + 1) (other_than caller) name s)
 
   module _ (calls : Calls) (clock : ℕ) (name : Name) where
     seal_stays : (w w' : Shared) (c : ℕ) → IsWorldOf plan calls clock w → Moves (rules_of plan) w c w' → IsSealed w.heap name → IsSealed w'.heap name
@@ -133,7 +133,7 @@ module _ (always : LawfulAlways) (lone : LoneRunsEnd) (good : PlansHaveGoodCode)
     alone_seal j w d (over f) v s = (v, s)
     alone_seal j w d (then_on {mid = mid} st rest) v s =
         let m = step→moves (rules_of plan) w j mid st in
-        alone_seal j mid d rest ((ordered always good plan is calls clock).kept w mid j v m) (seal_stays w mid j v m s)
+        alone_seal j mid d rest ((ordered plan is calls clock).kept w mid j v m) (seal_stays w mid j v m s)
 
     turn_seal : (js : List ℕ) (w d : Shared) → InTurn (rules_of plan) js w d → IsWorldOf plan calls clock w → IsSealed w.heap name → IsSealed d.heap name
     turn_seal js w d none v s = s
@@ -142,8 +142,8 @@ module _ (always : LawfulAlways) (lone : LoneRunsEnd) (good : PlansHaveGoodCode)
   -- in no state is anything sealed
   pub never_sealed : (core : Core) (calls : Calls) (name : Name) → IsReached plan core calls → IsForestClosed (source_of plan) plan.heap → IsSealed core.world.heap name → ⊥
   never_sealed core calls name reached closed s =
-      let serial = serial_on always lone good plan is core calls reached in
-      let at_end = turn_seal calls core.clock name serial.callers core.world serial.end serial.runs (world_of always lone good plan is core calls reached) s in
+      let serial = serial_on plan is core calls reached in
+      let at_end = turn_seal calls core.clock name serial.callers core.world serial.end serial.runs (world_of plan is core calls reached) s in
       let clean : NoneSealed (plain serial.end.heap) = subst NoneSealed (sym serial.replay.heap_is) (replay_unsealed (source_of plan) calls (calls_fit plan core calls reached) closed.unsealed closed.each_run serial.replay.legal) in
       clash at_end.object.mark at_end.ticket at_end.sealed (clean name (plain_object at_end.object) (get_plain serial.end.heap name ∙ ap (option_map plain_object) at_end.there))
     where
@@ -272,11 +272,11 @@ module _ (plan : Plan) (core : Core) (caller : ℕ) (after : Core) where
   pub sealing : (name : Name) (event : Event) → OfSeals name event → step plan core caller ≡ Some (after, progress.Moved event) → IsSealed after.world.heap name ⊎ IsSealed core.world.heap name
   sealing name event of e = by_due name event of (due plan (frame_of core.world caller)) e
 
-pub no_seal : LawfulAlways → LoneRunsEnd → PlansHaveGoodCode → NoSeal
-no_seal always lone good plan core after calls caller name is closed reached = (λ e. never (events.Seal name) seals_it e, λ e. never (events.SeeSealed name) sees_it e)
+pub no_seal : NoSeal
+no_seal plan core after calls caller name is closed reached = (λ e. never (events.Seal name) seals_it e, λ e. never (events.SeeSealed name) sees_it e)
   where
     never : (event : Event) → OfSeals plan core caller after name event → step plan core caller ≡ Some (after, progress.Moved event) → ⊥
     never event of e = elim (sealing plan core caller after name event of e) [
-      | inl s ↦ never_sealed always lone good plan is after calls name (steps caller (progress.Moved event) reached e) closed s
-      | inr s ↦ never_sealed always lone good plan is core calls name reached closed s
+      | inl s ↦ never_sealed plan is after calls name (steps caller (progress.Moved event) reached e) closed s
+      | inr s ↦ never_sealed plan is core calls name reached closed s
     ]

@@ -3,7 +3,6 @@ use Rattle.std.proofs.Common.{◌≡◌, ◌⊎◌, inl, inr, ℕ, ◌<◌, ◌�
 use Rattle.std.proofs.lemmas.Bool.{cases_lt}
 use Rattle.dl_ir.specs.declared.names.Name.{Name}
 use Rattle.dl_ir.specs.Heap.{root}
-use Rattle.dl_core.specs.Codes.{PlansHaveGoodCode}
 use Rattle.dl_core.specs.Heaps.{Heap, IsHeld}
 use Rattle.dl_core.specs.Plans.{Plan, IsPlan}
 use Rattle.dl_core.specs.Frames.{Frame, IsEntered}
@@ -12,7 +11,8 @@ use Rattle.dl_core.specs.LocalSteps.{due}
 use Rattle.dl_core.specs.Core.{Core, Shared, frame_of}
 use Rattle.dl_core.specs.Reached.{Calls, IsReached}
 use Rattle.dl_core.specs.Reach.{Links, WaitsFor, Waits, at_once, onward, Dominates, ticket_in, target_of_take}
-use Rattle.dl_core.specs.Laws.{IsKept, LawfulAlways, NoCycle, WaitsForOlder, WaitsForHigherRoots}
+use Rattle.dl_core.specs.Laws.{IsKept}
+use Rattle.dl_order.specs.Serial.{NoCycle, WaitsForOlder, WaitsForHigherRoots}
 use Rattle.dl_core.proofs.Dominated.{waits_down}
 use Rattle.dl_core.proofs.Dominates.{events_dominate}
 use Rattle.dl_core.proofs.Events.{works_running, works_loose, cleared, held_cleared, cleared_hand, hand_before}
@@ -20,13 +20,14 @@ use Rattle.dl_core.proofs.Names.{same_some, no_some}
 use Rattle.dl_core.proofs.Rows.{target_held, target_value, link_hidden, field_links}
 use Rattle.dl_core.proofs.Why as why
 use Rattle.dl_core.proofs.Why.{Why}
+use Rattle.dl_core.proofs.LawfulAlways.{lawful_always}
 
 -- what a caller takes next: a root above all that it holds, before it enters; or what a field of a held object refers to
 data TakesNext (world : Shared) (caller : ℕ) (name : Name) : Type 0 where
   a_root : name.ticket ≡ 0 → (frame_of world caller).ticket ≡ 0 → ((held : Name) → IsHeld world.heap caller held → (held.ticket ≡ 0) × (held.index < name.index)) → TakesNext world caller name
   a_target : IsEntered (frame_of world caller) → (from : Name) → IsHeld world.heap caller from → Links world.heap from name → TakesNext world caller name
 
-module _ (plan : Plan) (core : Core) (calls : Calls) (caller : ℕ) (is : IsPlan plan) (kept : IsKept plan core calls) (good : PlansHaveGoodCode) where
+module _ (plan : Plan) (core : Core) (calls : Calls) (caller : ℕ) (is : IsPlan plan) (kept : IsKept plan core calls) where
   abbrev heap : Heap
   heap = core.world.heap
 
@@ -37,7 +38,7 @@ module _ (plan : Plan) (core : Core) (calls : Calls) (caller : ℕ) (is : IsPlan
   unentered never = elim (cases_lt 0 frame.ticket) [ inl lt ↦ absurd (never lt) | inr le ↦ omega arith ]
 
   takes_next : (name : Name) → target_of_take (due plan frame) ≡ Some name → TakesNext core.world caller name
-  takes_next name takes = by (due plan frame) (why.why plan frame) (events_dominate plan core calls caller is kept.lawful kept.sound (good plan is)) takes
+  takes_next name takes = by (due plan frame) (why.why plan frame) (events_dominate plan core calls caller is kept.lawful kept.sound) takes
     where
       by : (d : Due) → Why plan frame d → Dominates core.world caller frame d → target_of_take d ≡ Some name → TakesNext core.world caller name
       by d why.idles rule e = absurd (no_some e)
@@ -51,16 +52,16 @@ module _ (plan : Plan) (core : Core) (calls : Calls) (caller : ℕ) (is : IsPlan
       by d (why.writes_code local field content n at to) rule e = absurd (no_some e)
       by d (why.writes_first field n target value booked given at hand to may) rule e = absurd (no_some e)
       by d (why.takes_code n at to other) rule e =
-          let w = works_running plan core calls caller is kept.lawful kept.sound (good plan is) at.running in
-          let before = hand_before plan core calls caller is kept.lawful kept.sound (good plan is) w _ at in
+          let w = works_running plan core calls caller is kept.lawful kept.sound at.running in
+          let before = hand_before plan core calls caller is kept.lawful kept.sound w _ at in
           let got = before.read in
           let link : Links heap got.name n = field_links heap got.name n got.object before.field got.there (same_some (sym got.in_hand ∙ target_held frame.hand n to)) in
           a_target w.1 got.name (record { object = got.object; there = got.there; held = got.held }) (subst (Links heap got.name) (same_some e) link)
       by d (why.takes_first field n target value booked given at hand to other) rule e =
-          let w = works_loose plan core calls caller is kept.lawful kept.sound (good plan is) n given.rest given.first in
-          let c = cleared plan core calls caller is kept.lawful kept.sound (good plan is) w n booked given in
-          let link : Links heap n target = field_links heap n target c.object field c.there (sym (cleared_hand plan core calls caller is kept.lawful kept.sound (good plan is) n booked c value field hand at) ∙ target_value value target to) in
-          a_target w.1 n (held_cleared plan core calls caller is kept.lawful kept.sound (good plan is) n booked c) (subst (Links heap n) (same_some e) link)
+          let w = works_loose plan core calls caller is kept.lawful kept.sound n given.rest given.first in
+          let c = cleared plan core calls caller is kept.lawful kept.sound w n booked given in
+          let link : Links heap n target = field_links heap n target c.object field c.there (sym (cleared_hand plan core calls caller is kept.lawful kept.sound n booked c value field hand at) ∙ target_value value target to) in
+          a_target w.1 n (held_cleared plan core calls caller is kept.lawful kept.sound n booked c) (subst (Links heap n) (same_some e) link)
       by d (why.lets_go n rest first what) rule e = absurd (no_some e)
       by d (why.gives_up n booked given none) rule e = absurd (no_some e)
       by d (why.seals end entry rest tidy ended null entries) rule e = absurd (no_some e)
@@ -83,15 +84,15 @@ module _ (plan : Plan) (core : Core) (calls : Calls) (caller : ℕ) (is : IsPlan
                 (λ same. waits.apart (sym (kept.sound.tickets.own other caller entered same))),
           )
 
-  pub for_roots : (wanted held : Name) → frame.ticket ≡ 0 → target_of_take (due plan frame) ≡ Some wanted → IsHeld heap caller held → (wanted.ticket ≡ 0) × (held.ticket ≡ 0) × (held.index < wanted.index)
-  for_roots wanted held z takes h = by (takes_next wanted takes)
+  pub for_roots : (wanted : Name) → frame.ticket ≡ 0 → target_of_take (due plan frame) ≡ Some wanted → (wanted.ticket ≡ 0) × ((held : Name) → IsHeld heap caller held → (held.ticket ≡ 0) × (held.index < wanted.index))
+  for_roots wanted z takes = by (takes_next wanted takes)
     where
-      by : TakesNext core.world caller wanted → (wanted.ticket ≡ 0) × (held.ticket ≡ 0) × (held.index < wanted.index)
-      by (a_root root_is waits above) = let r = above held h in (root_is, r.0, r.1)
+      by : TakesNext core.world caller wanted → (wanted.ticket ≡ 0) × ((held : Name) → IsHeld heap caller held → (held.ticket ≡ 0) × (held.index < wanted.index))
+      by (a_root root_is waits above) = (root_is, above)
       by (a_target e from holder link) = absurd (omega (arith, z, e))
 
 -- along callers that each wait for the next
-module _ (always : LawfulAlways) (good : PlansHaveGoodCode) (plan : Plan) (is : IsPlan plan) (core : Core) (calls : Calls) (reached : IsReached plan core calls) where
+module _ (plan : Plan) (is : IsPlan plan) (core : Core) (calls : Calls) (reached : IsReached plan core calls) where
   -- a caller has entered, or has not and holds a root that is not below this name
   data Ahead (wanted : Name) (caller : ℕ) : Type 0 where
     runs_on : IsEntered (frame_of core.world caller) → Ahead wanted caller
@@ -102,10 +103,10 @@ module _ (always : LawfulAlways) (good : PlansHaveGoodCode) (plan : Plan) (is : 
 
   -- from who has entered
   older_on : (caller other : ℕ) → IsEntered (frame_of core.world caller) → Waits plan core.world caller other → IsEntered (frame_of core.world other) × (ticket_in core.world other < ticket_in core.world caller)
-  older_on caller other entered (at_once waits) = for_older plan core calls caller is (always plan core calls is reached) good other entered waits
+  older_on caller other entered (at_once waits) = for_older plan core calls caller is (lawful_always plan core calls is reached) other entered waits
   older_on caller other entered (onward {mid = mid} on waits) =
       let so_far = older_on caller mid entered on in
-      let further = for_older plan core calls mid is (always plan core calls is reached) good other so_far.0 waits in
+      let further = for_older plan core calls mid is (lawful_always plan core calls is reached) other so_far.0 waits in
       (further.0, omega (arith, further.1, so_far.1))
 
   next_ahead : (wanted : Name) (other : ℕ) (name : Name) → IsHeld core.world.heap other name → wanted.index ≤ name.index → Ahead wanted other
@@ -117,10 +118,10 @@ module _ (always : LawfulAlways) (good : PlansHaveGoodCode) (plan : Plan) (is : 
   ahead_on caller other z (onward {mid = mid} on waits) = let so_far = ahead_on caller mid z on in (so_far.0, so_far.1, by so_far.0 so_far.2)
     where
       by : (wanted : Name) → Ahead wanted mid → Ahead wanted other
-      by wanted (runs_on entered) = runs_on (for_older plan core calls mid is (always plan core calls is reached) good other entered waits).0
+      by wanted (runs_on entered) = runs_on (for_older plan core calls mid is (lawful_always plan core calls is reached) other entered waits).0
       by wanted (holds_root w name held le) =
-          let higher = for_roots plan core calls mid is (always plan core calls is reached) good waits.name name w waits.takes held in
-          next_ahead wanted other waits.name waits.held (omega (arith, higher.2, le))
+          let higher = for_roots plan core calls mid is (lawful_always plan core calls is reached) waits.name w waits.takes in
+          next_ahead wanted other waits.name waits.held (omega (arith, (higher.1 name held).1, le))
 
   no_cycle_here : (caller : ℕ) → Waits plan core.world caller caller → ⊥
   no_cycle_here caller waits = elim (either_way caller) [
@@ -131,14 +132,14 @@ module _ (always : LawfulAlways) (good : PlansHaveGoodCode) (plan : Plan) (is : 
       by : (frame_of core.world caller).ticket ≡ 0 → (wanted : Name) → target_of_take (due plan (frame_of core.world caller)) ≡ Some wanted → Ahead wanted caller → ⊥
       by z wanted takes (runs_on entered) = omega (arith, z, entered)
       by z wanted takes (holds_root w name held le) =
-          let higher = for_roots plan core calls caller is (always plan core calls is reached) good wanted name z takes held in
-          omega (arith, higher.2, le)
+          let higher = for_roots plan core calls caller is (lawful_always plan core calls is reached) wanted z takes in
+          omega (arith, (higher.1 name held).1, le)
 
-pub no_cycle : LawfulAlways → PlansHaveGoodCode → NoCycle
-no_cycle always good plan core calls caller is reached waits = no_cycle_here always good plan is core calls reached caller waits
+pub no_cycle : NoCycle
+no_cycle plan core calls caller is reached waits = no_cycle_here plan is core calls reached caller waits
 
-pub waits_for_older : LawfulAlways → PlansHaveGoodCode → WaitsForOlder
-waits_for_older always good plan core calls caller other is reached entered waits = for_older plan core calls caller is (always plan core calls is reached) good other entered waits
+pub waits_for_older : WaitsForOlder
+waits_for_older plan core calls caller other is reached entered waits = for_older plan core calls caller is (lawful_always plan core calls is reached) other entered waits
 
-pub waits_for_higher_roots : LawfulAlways → PlansHaveGoodCode → WaitsForHigherRoots
-waits_for_higher_roots always good plan core calls caller other held is reached z waits h = for_roots plan core calls caller is (always plan core calls is reached) good waits.name held z waits.takes h
+pub waits_for_higher_roots : WaitsForHigherRoots
+waits_for_higher_roots plan core calls caller other is reached z waits = for_roots plan core calls caller is (lawful_always plan core calls is reached) waits.name z waits.takes

@@ -10,7 +10,6 @@ use Rattle.dl_core.specs.declared.answers.Progress.{Progress}
 use Rattle.dl_core.specs.declared.answers.Progress.TheVariants as progress
 use Rattle.dl_core.specs.declared.stages.Stage.{Stage}
 use Rattle.dl_core.specs.declared.stages.Stage.TheVariants as stages
-use Rattle.dl_core.specs.Codes.{PlansHaveGoodCode}
 use Rattle.dl_core.specs.Heaps.{Heap}
 use Rattle.dl_core.specs.Plans.{Plan, IsPlan}
 use Rattle.dl_core.specs.Frames.{Frame, IsEntered, idle, at_rest}
@@ -22,13 +21,13 @@ use Rattle.dl_core.specs.Steps.{Nowhere, Inside, At, step_by}
 use Rattle.dl_core.specs.Core.{Core, Shared, frame_of, rules_of, aim_of, finished_by, acted, with_event, touches, finishes, step_due, step}
 use Rattle.dl_core.specs.Reached.{Calls, IsReached, steps}
 use Rattle.dl_core.specs.Sound.{Stands, idles, waits, works}
-use Rattle.dl_core.specs.Laws.{LawfulAlways}
 use Rattle.dl_core.proofs.Diamond.{Touch, Leaves, Puts, touched, Acts, Moves, moves→step, Clear}
-use Rattle.dl_core.proofs.Runs.{IsOrdered}
 use Rattle.dl_core.proofs.Clearance.{touches_clear}
 use Rattle.dl_core.proofs.Names.{same_number}
+use Rattle.dl_core.proofs.LawfulAlways.{lawful_always}
 use Rattle.dl_order.proofs.Acting.{entered_acts}
 use Rattle.dl_order.proofs.Keeping.{touch_one}
+use Rattle.dl_order.proofs.Runs.{IsOrdered}
 
 -- ---- how a caller stands
 
@@ -68,7 +67,7 @@ module _ (plan : Plan) (heap : Heap) (calls : Calls) (caller : ℕ) (frame : Fra
 
 -- ---- a step by the rules is a step of the machine
 
-inside_is : (d : Due) → aim_of d ≡ Inside → (end : End) × (d ≡ Finishes end)
+pub inside_is : (d : Due) → aim_of d ≡ Inside → (end : End) × (d ≡ Finishes end)
 inside_is Nothing e = absurd (cc)
 inside_is (Reserves need) e = absurd (cc)
 inside_is (TakesRoot number) e = absurd (cc)
@@ -147,9 +146,9 @@ pub record IsWorldOf (plan : Plan) (calls : Calls) (clock : ℕ) (world : Shared
 abbrev pub IsOther : Shared → ℕ → ℕ → Type 0
 IsOther world other caller = (caller ≢ other) × (IsEntered (frame_of world other) ⊎ ((frame_of world other).stage ≡ stages.Idle))
 
-module _ (always : LawfulAlways) (good : PlansHaveGoodCode) (plan : Plan) (is : IsPlan plan) where
+module _ (plan : Plan) (is : IsPlan plan) where
   pub stands_of : (core : Core) (calls : Calls) → IsReached plan core calls → (caller : ℕ) → Stands plan core.world.heap calls caller (frame_of core.world caller)
-  stands_of core calls reached caller = ((always plan core calls is reached).sound.each caller).stands
+  stands_of core calls reached caller = ((lawful_always plan core calls is reached).sound.each caller).stands
 
   -- who is idle makes no step
   pub idle_nowhere : (core : Core) (calls : Calls) → IsReached plan core calls → (caller : ℕ) → (frame_of core.world caller).stage ≡ stages.Idle → aim_of (due plan (frame_of core.world caller)) ≡ Nowhere
@@ -160,7 +159,7 @@ module _ (always : LawfulAlways) (good : PlansHaveGoodCode) (plan : Plan) (is : 
   pub nowhere_unentered : (core : Core) (calls : Calls) → IsReached plan core calls → (caller : ℕ) → aim_of (due plan (frame_of core.world caller)) ≡ Nowhere → IsEntered (frame_of core.world caller) → ⊥
   nowhere_unentered core calls reached caller e entered =
       let busy = entered_busy plan core.world.heap calls caller (frame_of core.world caller) (stands_of core calls reached caller) entered in
-      entered_acts plan (frame_of core.world caller) ((always plan core calls is reached).sound.each caller).ready busy.0 busy.1 e
+      entered_acts plan (frame_of core.world caller) ((lawful_always plan core calls is reached).sound.each caller).ready busy.0 busy.1 e
 
   -- who has entered has a frame
   pub has_frame : (world : Shared) (caller : ℕ) → IsEntered (frame_of world caller) → caller < length world.frames
@@ -189,7 +188,7 @@ module _ (always : LawfulAlways) (good : PlansHaveGoodCode) (plan : Plan) (is : 
     abbrev pub Comes : Shared → Type 0
     Comes = IsWorldOf plan calls clock
 
-    world_kept : (w w' : Shared) (i : ℕ) → Comes w → Moves (rules_of plan) w i w' → Comes w'
+    pub world_kept : (w w' : Shared) (i : ℕ) → Comes w → Moves (rules_of plan) w i w' → Comes w'
     world_kept w w' i v m =
         let made = moves_step plan v.core i w' (subst (λ u. Moves (rules_of plan) u i w') (sym v.is) m) in
         record { core = made.after; is = made.is; clock_is = made.clock ∙ v.clock_is; reached = steps i made.answer v.reached made.steps }
@@ -228,7 +227,7 @@ module _ (always : LawfulAlways) (good : PlansHaveGoodCode) (plan : Plan) (is : 
       where
         by_core : (u : Shared) → v.core.world ≡ u → IsEntered (frame_of u j) → (s t : Touch) (f g : Frame) → Acts (rules_of plan) u i s f → Acts (rules_of plan) u j t g → Clear (rules_of plan) u.heap s t
         by_core u e = subst (λ u. IsEntered (frame_of u j) → (s t : Touch) (f g : Frame) → Acts (rules_of plan) u i s f → Acts (rules_of plan) u j t g → Clear (rules_of plan) u.heap s t) e
-            (touches_clear plan v.core calls is (always plan v.core calls is v.reached).lawful (always plan v.core calls is v.reached).sound (good plan is) i j a.0)
+            (touches_clear plan v.core calls is (lawful_always plan v.core calls is v.reached).lawful (lawful_always plan v.core calls is v.reached).sound i j a.0)
 
         by : IsEntered (frame_of w j) ⊎ ((frame_of w j).stage ≡ stages.Idle) → Clear (rules_of plan) w.heap mi.touch mj.touch
         by (inl entered) = by_core w v.is entered mi.touch mj.touch mi.frame mj.frame mi.acts mj.acts

@@ -1,16 +1,12 @@
 -- What holds when no caller has a call in hand any more.
-use Rattle.std.specs.Prelude.{◌≡◌, ◌+◌, ℕ, false, Some, List, All}
+use Rattle.std.specs.Prelude.{◌≡◌, ◌+◌, ℕ, List, All}
 use Rattle.std.specs.List.Sorted.{IsNonDecreasingBy}
 use Rattle.std.specs.List.{flat_map}
-use Rattle.std.specs.FinMap as finite
 use Rattle.dl_ir.specs.declared.answers.Entry.{Entry}
 use Rattle.dl_ir.specs.declared.answers.Refusal.{Refusal}
 use Rattle.dl_ir.specs.declared.closed.Closed.{Closed}
-use Rattle.dl_ir.specs.declared.names.Name.{Name}
-use Rattle.dl_ir.specs.declared.objects.Obj.{Obj}
 use Rattle.dl_ir.specs.Cover.{Covers}
-use Rattle.dl_ir.specs.Heap.{IsHeapOf, IsHidden, hidden_count}
-use Rattle.dl_ir.specs.References as references
+use Rattle.dl_ir.specs.Heap.{hidden_count}
 use Rattle.dl_shape.specs.Closed.{IsForestClosed}
 use Rattle.dl_shape.specs.Pool.{IsLawfulPool}
 use Rattle.dl_shape.specs.Replay.{replayed, IsLegal}
@@ -18,7 +14,7 @@ use Rattle.dl_shape.specs.Rising.{in_rising}
 use Rattle.dl_closed.specs.Unsealed.{IsUnsealed}
 use Rattle.dl_core.specs.declared.stages.Stage.TheVariants as stages
 use Rattle.dl_core.specs.Heaps.{plain}
-use Rattle.dl_core.specs.Plans.{Plan, IsPlan, source_of}
+use Rattle.dl_core.specs.Plans.{Plan, IsPlan, MayStartFrom, source_of}
 use Rattle.dl_core.specs.Core.{Core, frame_of, entries_of, refusals_of}
 use Rattle.dl_core.specs.Reached.{Calls, IsReached}
 use Rattle.dl_core.specs.Sound.{callers_of}
@@ -38,7 +34,8 @@ abbrev pub refusals_in : Plan → Core → List Refusal
 refusals_in plan core = flat_map (refusals_of core) (callers_of plan)
 
 -- the calls begun were run: each stands once, in the history or among the refusals; each answer is that of the serial meaning; the pool
--- is lawful; where serial runs end in forests no answer tells of a sealed object; each caller's refusals stand in order of index; the heap is that of the replay, and what is not free of the places is in it; and another run may start from it
+-- is lawful; where serial runs end in forests no answer tells of a sealed object; each caller's refusals stand in order of index; the
+-- heap is that of the replay, and what is not free of the places is in it; and another run may start from it
 pub record IsRun (plan : Plan) (core : Core) (calls : Calls) : Type 0 where
   pub covers : Covers calls (history_in plan core) (refusals_in plan core)
   pub legal : IsLegal (source_of plan) calls plan.heap (history_in plan core)
@@ -47,8 +44,7 @@ pub record IsRun (plan : Plan) (core : Core) (calls : Calls) : Type 0 where
   pub refusals : (caller : ℕ) → All (λ (refusal : Refusal). refusal.caller ≡ caller) (refusals_of core caller) × IsNonDecreasingBy (λ (refusal : Refusal). refusal.index) (refusals_of core caller)
   pub heap : plain core.world.heap ≡ replayed (source_of plan) calls plan.heap (history_in plan core)
   pub free : core.pool.free + hidden_count (plain core.world.heap) ≡ plan.places
-  pub of_module : IsHeapOf (source_of plan) (plain core.world.heap)
-  pub one_field : (name : Name) (object : Obj) → finite.get (plain core.world.heap) name ≡ Some object → IsHidden name → object.sealed ≡ false → references.refs (plain core.world.heap) name ≡ 1
+  pub again : MayStartFrom (record plan { heap = plain core.world.heap })
 
 -- every state to which a run comes, and in which no caller has a call in hand, is such
 abbrev pub RunsEnd : Type 0

@@ -1,3 +1,6 @@
 pub mod Lengths
+pub mod Serial
 pub mod Measure
 pub mod Ends
+pub mod Found
+pub mod Example

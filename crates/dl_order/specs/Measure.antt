@@ -10,7 +10,8 @@ use Rattle.dl_core.specs.Core.{Core, Shared, frame_of, rules_of, step, with_call
 use Rattle.dl_core.specs.Reached.{Calls, IsReached, MayBegin, calls_of, with_begun}
 use Rattle.dl_core.specs.Reach.{ticket_in}
 use Rattle.dl_core.specs.Sound.{callers_of}
-use Rattle.dl_core.specs.Laws.{Rests}
+use Rattle.dl_order.specs.Ends.{AreAllIdle}
+use Rattle.dl_order.specs.Serial.{Rests}
 use Rattle.dl_order.specs.Lengths.{steps_in_turn}
 
 -- the number of steps by which the running operations, alone and one after another, come to their end
@@ -68,3 +69,7 @@ pub data IsEnding (plan : Plan) : Core → Calls → Type 0 where
 
 abbrev pub EachRunEnds : Type 0
 EachRunEnds = (plan : Plan) (core : Core) (calls : Calls) → IsPlan plan → IsReached plan core calls → IsEnding plan core calls
+
+-- and every run can be brought to its end: from each state steps lead on to one in which no caller has a call in hand
+abbrev pub EachRunCanEnd : Type 0
+EachRunCanEnd = (plan : Plan) (core : Core) (calls : Calls) → IsPlan plan → IsReached plan core calls → (end : Core) × IsReached plan end calls × AreAllIdle end

@@ -1,12 +1,18 @@
 // What is proved of every order in which callers are given steps.
-ghost use Rattle.dl_core.specs.Laws.{NoCycle, NoSeal, SerialAlways, WaitsForHigherRoots, WaitsForOlder};
 ghost use Rattle.dl_order.specs.Ends.{RunsClose, RunsEnd};
-ghost use Rattle.dl_order.specs.Measure.{BeginsFall, EachRunEnds, OldestMoves, OneStepLess, RestsAreOne, SomeoneMoves, StepsFall};
+ghost use Rattle.dl_order.specs.Found.{AllIsThere, AnswersAreRight, EmptyObjectsComeAndGo, FramesAreReady, HoldersAreCallers, NamesAreGivenOnce, NumbersAreSmall, TakersWait};
+ghost use Rattle.dl_order.specs.Measure.{BeginsFall, EachRunCanEnd, EachRunEnds, OldestMoves, OneStepLess, RestsAreOne, SomeoneMoves, StepsFall};
+ghost use Rattle.dl_order.specs.Serial.{LoneStepsAreSteps, NoCycle, NoSeal, SerialAlways, WaitsForHigherRoots, WaitsForOlder};
 
 /// That the running operations of each state end, alone and one after another, in the replay of all that entered, in rising
 /// tickets.
 pub fn serial_always()
     ensures { SerialAlways }
+{}
+
+/// That the steps of a caller that has entered are those of its lone run.
+pub fn lone_steps_are_steps()
+    ensures { LoneStepsAreSteps }
 {}
 
 /// That callers never wait for one another in a circle.
@@ -19,7 +25,7 @@ pub fn waits_for_older()
     ensures { WaitsForOlder }
 {}
 
-/// That a caller that has not entered waits only for a root above all that it holds.
+/// That a caller that has not entered waits only for a root, and one above all that it holds.
 pub fn waits_for_higher_roots()
     ensures { WaitsForHigherRoots }
 {}
@@ -74,4 +80,50 @@ pub fn steps_fall()
 /// That every run ends, whichever callers are given steps.
 pub fn each_run_ends()
     ensures { EachRunEnds }
+{}
+
+/// That steps can be given until no caller has a call in hand.
+pub fn each_run_can_end()
+    ensures { EachRunCanEnd }
+{}
+
+/// That what a caller's next event touches is there, unless it is made then, and so is what a frame names and a field refers to.
+pub fn all_is_there()
+    ensures { AllIsThere }
+{}
+
+/// That who holds an object is a caller, and that nobody takes what it holds.
+pub fn holders_are_callers()
+    ensures { HoldersAreCallers }
+{}
+
+/// That no two objects ever get one name.
+pub fn names_are_given_once()
+    ensures { NamesAreGivenOnce }
+{}
+
+/// That an object refers to nothing when it is made, and when it is given up.
+pub fn empty_objects_come_and_go()
+    ensures { EmptyObjectsComeAndGo }
+{}
+
+/// That clock, versions and numbers of places keep far below the ends of their types.
+pub fn numbers_are_small()
+    ensures { NumbersAreSmall }
+{}
+
+/// That what comes next of a caller is an event.
+pub fn frames_are_ready()
+    ensures { FramesAreReady }
+{}
+
+/// That a caller waits only where another holds what its next event takes, stands still only where it has no call in hand, and
+/// is refused only where too few places are free.
+pub fn answers_are_right()
+    ensures { AnswersAreRight }
+{}
+
+/// That a caller waits wherever another holds what its next event takes.
+pub fn takers_wait()
+    ensures { TakersWait }
 {}

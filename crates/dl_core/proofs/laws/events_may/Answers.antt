@@ -1,6 +1,5 @@
-use Rattle.dl_core.proofs.GoodCode.{plans_have_good_code}
 use Rattle.dl_core.proofs.Events as events
 use Rattle.dl_core.proofs.laws.events_may.Goals as goal
 
 pub returns : goal.returns
-returns c = λ plan core calls caller name frame found is kept at acts. events.events_may plan core calls caller is kept.lawful kept.sound (plans_have_good_code plan is) name at (frame, found) acts
+returns c = λ plan core calls caller name frame found is kept at acts. events.events_may plan core calls caller is kept.lawful kept.sound name at (frame, found) acts

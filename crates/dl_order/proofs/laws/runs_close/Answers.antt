@@ -1,9 +1,5 @@
-use Rattle.dl_core.proofs.GoodCode.{plans_have_good_code}
-use Rattle.dl_core.proofs.LawfulAlways.{lawful_always}
-use Rattle.dl_core.proofs.LoneAlways.{lone_runs_end}
-use Rattle.dl_order.proofs.Ends.{runs_end}
 use Rattle.dl_order.proofs.Closes.{runs_close}
 use Rattle.dl_order.proofs.laws.runs_close.Goals as goal
 
 pub returns : goal.returns
-returns c = runs_close lawful_always (runs_end lawful_always lone_runs_end plans_have_good_code)
+returns c = runs_close
