@@ -1,3 +1,4 @@
+-- The state of the meaning that a frame and a heap are.
 use Rattle.dl_serial.specs.declared.frames.Frame.{Frame}
 use Rattle.dl_serial.specs.declared.frames.Task.{Task}
 use Rattle.std.specs.Prelude.{◌+◌, ◌≤◌}
@@ -8,7 +9,7 @@ use Rattle.dl_ir.specs.declared.modules.Module.{Module}
 
 -- the state that a frame and a heap are
 abbrev pub state_of : Frame → View → State
-state_of frame heap = record { locals = frame.locals.items; objects = heap.objects; turns = frame.turns; made = frame.made }
+state_of frame heap = record { locals = frame.locals.items; objects = heap.objects; turns = frame.turns; made = frame.made; emitted = frame.emitted }
 
 -- the context that a module and a task are
 abbrev pub context_of : Module → Task → Context

@@ -1,3 +1,5 @@
+//! What each simple statement does.
+
 ghost use Rattle.std.specs.Prelude.{◌≡◌, ◌<◌, ◌≤◌, ◌+◌, None, if◌then◌else◌, is_none, slice_get, slice_set, option_and_then};
 ghost use Rattle.std.specs.FinMap as finite;
 ghost use Rattle.dl_ir.specs.Heap.{HasStart};
@@ -9,8 +11,8 @@ ghost use Rattle.dl_ir.specs.declared.statements.Stmt.{Stmt-F};
 ghost use Rattle.dl_ir.specs.declared.objects.Obj.{Obj};
 
 use crate::frames::{Frame, Task};
-use crate::numbers::{evaluate, target_at};
 use dl_ir::{End, Expr, Fault, Fields, Heap, Module, Name, Obj, Value};
+use dl_meaning::{evaluate, target_at};
 
 /// The end that a fault in an expression is.
 pub fn end_of_fault(fault: Fault) -> End
@@ -45,6 +47,7 @@ fn set_local(frame: &mut Frame, x: u32, value: Value)
     ensures locals { frame.new.locals.items ≡ slice_set frame.old.locals.items x value }
     ensures turns { frame.new.turns ≡ frame.old.turns }
     ensures made { frame.new.made ≡ frame.old.made }
+    ensures emitted { frame.new.emitted ≡ frame.old.emitted }
 {
     if (x as usize) < frame.locals.len() {
         frame.locals[x as usize] = value;
@@ -194,6 +197,22 @@ pub fn run_link(q: u32, f: u32, target: Option<Name>, frame: &Frame, heap: &mut 
                 heap.set_field(name, f as usize, Value::Ref(target));
             }
             sealed
+        }
+    }
+}
+
+/// `emit e;`
+pub fn run_emit(e: &Expr, frame: &mut Frame, heap: &Heap) -> Option<End>
+    ensures gives { (cx : Context) → step cx (Stmt-F.Emit e.now) (state_of frame.old heap.now) ≡ record { state = state_of frame.new heap.now; end = result } }
+    ensures turns { frame.new.turns ≡ frame.old.turns }
+    ensures made { frame.new.made ≡ frame.old.made }
+{
+    match evaluate(e, &frame.locals) {
+        Err(fault) => Some(end_of_fault(fault)),
+        Ok(_) if frame.emitted.is_full() => Some(End::Emits),
+        Ok(n) => {
+            frame.emitted.push(n);
+            None
         }
     }
 }

@@ -1,3 +1,4 @@
+-- The moves of the pool of places that a history gives, and which of them are lawful.
 use Rattle.std.specs.Prelude.{◌≡◌, ◌+◌, ◌<◌, ◌≤◌, ◌==◌, ◌++◌, ◌+ℤ◌, ◌-ℤ◌, ◌≤ℤ◌, ℕ, ℤ, pos, List, [], ◌∷◌, length, slice_get, option_and_then, filter, fold, map, count_by, nat_lt, nat_le, All, Contains, if◌then◌else◌}
 use Rattle.std.specs.Option.{option_map_or}
 use Rattle.std.specs.List.{flat_map}
@@ -41,6 +42,11 @@ in_rising_versions moves = in_rising (λ (move : Move). move.version) moves
 -- the versions of an entry's moves
 abbrev pub versions_of : Module → List (List Call) → Entry → List ℕ
 versions_of source files entry = map (λ (move : Move). move.version) (moves_of_entry source files entry)
+
+-- an entry has no version but those of its moves: where it made none, its version is 0
+pub record HasVersionsOfMovesAlone (source : Module) (files : List (List Call)) (entry : Entry) : Type 0 where
+  pub unreserved : allocs_at source files entry.caller entry.index ≡ 0 → entry.reserved_at ≡ 0
+  pub unreturned : entry.returned ≡ 0 → entry.returned_at ≡ 0
 
 -- the number of free places at a version
 abbrev pub free_at : ℕ → Objects → List Move → ℕ → ℤ
