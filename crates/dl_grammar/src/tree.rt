@@ -1,3 +1,4 @@
+//! The trees of module texts.
 use dl_ir::{Op, Rel, Text};
 use sqlite_items::{Boxed, Items};
 
