@@ -62,12 +62,7 @@ fn put_return<K: Sink>(
     out.put(sink, b";\n")
 }
 
-fn put_emit<K: Sink>(
-    e: &TreeExpr,
-    level: &Level,
-    out: &mut Out,
-    sink: &mut K,
-) -> Result<(), Failed>
+fn put_emit<K: Sink>(e: &TreeExpr, level: &Level, out: &mut Out, sink: &mut K) -> Result<(), Failed>
     requires { out.old.failed ≡ false }
     ensures { Puts (K.taken sink.old) out.old (text_of (spec.emit_line e.now (depth level.now))) result (K.taken sink.new) out.new }
 {

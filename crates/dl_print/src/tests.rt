@@ -54,8 +54,7 @@ op bare(r: HEAP) allocs 0 fuel 0 {
 }
 ";
 
-const EMITTING: &[u8] =
-    b"domlock 2 op a(r:R,x:int)allocs 0 fuel 0{if(x<1){emit-x ;}emit(x+1)*2;}";
+const EMITTING: &[u8] = b"domlock 2 op a(r:R,x:int)allocs 0 fuel 0{if(x<1){emit-x ;}emit(x+1)*2;}";
 
 const EMITTING_CANONICAL: &[u8] = b"domlock 2
 op a(r: R, x: int) allocs 0 fuel 0 {
@@ -89,7 +88,10 @@ fn prints_modules(rt: HostRuntime) -> Result<(), Fail> {
         (CANONICAL, CANONICAL),
         (b"domlock 1", b"domlock 1\n"),
         (EMITTING, EMITTING_CANONICAL),
-        (b"domlock 1 node emit{emit:emit}", b"domlock 1\nnode emit { emit: emit }\n"),
+        (
+            b"domlock 1 node emit{emit:emit}",
+            b"domlock 1\nnode emit { emit: emit }\n",
+        ),
     ];
     for (text, want) in table {
         let mut sink = MemSink::new(rt.alloc(), 100, &[], 10_000)?;
