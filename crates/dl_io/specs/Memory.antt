@@ -1,10 +1,19 @@
-use Rattle.std.specs.Prelude.{◌≡◌, ◌≢◌, ◌&&◌, ℕ, Bool, true, false, List, [], ◌∷◌, ◌++◌, Some, None, map, if◌then◌else◌, is_some, option_map, string_bytes}
-use Rattle.dl_io.specs.Source.{Source}
+-- What files and a sink in memory tell, and which of their calls fail.
+use Rattle.std.specs.Prelude.{◌≡◌, ◌≢◌, ◌&&◌, ℕ, Bool, true, false, List, [], ◌∷◌, ◌++◌, Some, None, map, if◌then◌else◌, Contains, is_some, option_map, string_bytes}
+use Rattle.dl_io.specs.Source.{Source, raised}
 use Rattle.dl_io.specs.Taken.{Taken}
 use Rattle.dl_io.specs.declared.pieces.MemFile.{MemFile}
 use Rattle.dl_io.specs.declared.memory_files.MemFiles.{MemFiles}
 use Rattle.dl_io.specs.Files.{bytes_in, left_of}
 use Rattle.dl_io.specs.declared.memory_sink.MemSink.{MemSink}
+
+-- the number of the next call; it stands still at its type's end
+abbrev pub next_call : ℕ → ℕ
+next_call calls = raised calls 1
+
+-- the call of this number is one of those that fail
+abbrev pub IsNamed : List ℕ → ℕ → Type 0
+IsNamed fails call = Contains fails call
 
 -- whether no call was named to fail
 abbrev pub is_reliable : List ℕ → Bool
@@ -21,6 +30,7 @@ pub record Plan : Type 0 where
   pub fails : List ℕ
   pub calls : ℕ
 
+-- the plan of files in memory, with the calls made so far
 abbrev pub plan_of : MemFiles → Plan
 plan_of files = record { piece = files.piece; fails = files.fails.items; calls = files.calls }
 
@@ -69,5 +79,6 @@ pub record Script : Type 0 where
   pub calls : ℕ
   pub room : ℕ
 
+-- the script of a sink in memory, with the calls made so far
 abbrev pub script_of : MemSink → Script
 script_of sink = record { piece = sink.piece; fails = sink.fails.items; calls = sink.calls; room = sink.room }
