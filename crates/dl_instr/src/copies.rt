@@ -1,3 +1,5 @@
+//! Copies of modules and their parts, which a code keeps.
+
 ghost use Rattle.std.specs.Prelude.{◌≡◌, IfOk};
 
 use dl_ir::{Block, Cond, Expr, FieldDecl, KindDecl, LocalDecl, Module, OpDecl, Stmt, Text};

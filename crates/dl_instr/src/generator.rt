@@ -1,3 +1,5 @@
+//! The plain code of a module, made statement by statement.
+
 ghost use Rattle.std.specs.Prelude.{◌≡◌, List, [], ◌∷◌, ◌++◌, ◌<◌, IfOk, OnOk, length, slice_set};
 ghost use Rattle.dl_instr.specs.Code.{stmt_code, block_code, op_code, code, if_code, tested, skipped};
 ghost use Rattle.dl_instr.specs.declared.steps.Step.{Step};

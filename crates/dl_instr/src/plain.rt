@@ -1,3 +1,5 @@
+//! The plain step at a place, found in the module without making its code.
+
 ghost use Rattle.std.specs.Prelude.{◌≡◌, ◌<◌, ◌≤◌, ◌+◌, ◌^◌, ◌∷◌, [], false, true, length, slice_get, MatchOption};
 ghost use Rattle.std.specs.Option.{option_map};
 ghost use Rattle.dl_instr.specs.Code.{stmt_code, block_code, op_code};
@@ -34,6 +36,7 @@ pub(crate) enum PlainStep<'a> {
         field: u32,
         content: Content,
     },
+    Emit,
     Test {
         cond: &'a Cond,
         is_turn: bool,

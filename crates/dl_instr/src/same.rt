@@ -1,3 +1,5 @@
+//! Whether two modules, or parts of them, are the same.
+
 ghost use Rattle.std.specs.Prelude.{◌≡◌, ◌↔◌, IsTrue};
 
 use dl_ir::{Block, Cond, Expr, FieldDecl, KindDecl, LocalDecl, Module, OpDecl, Stmt, Text};
