@@ -74,6 +74,9 @@ fn copy_stmt(alloc: Global, original: &Stmt) -> Result<Stmt, AllocError>
         Stmt::Return { e } => Stmt::Return {
             e: copy_expr(alloc, e)?,
         },
+        Stmt::Emit { e } => Stmt::Emit {
+            e: copy_expr(alloc, e)?,
+        },
         &Stmt::Load { x, p, f } => Stmt::Load { x, p, f },
         &Stmt::Copy { p, q } => Stmt::Copy { p, q },
         &Stmt::Null { p } => Stmt::Null { p },

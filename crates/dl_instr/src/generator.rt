@@ -119,6 +119,7 @@ fn add_stmt(alloc: Global, steps: &mut Steps, s: &Stmt) -> Result<(), AllocError
             let place = steps.len();
             add_tested(alloc, steps, c, true, body, Step::Jump { place })
         }
+        Stmt::Emit { e } => push_eval(alloc, steps, e, Step::Emit),
         Stmt::Return { e } => {
             let value = copy_expr(alloc, e)?;
             steps.push(Step::Give { value })

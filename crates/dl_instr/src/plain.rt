@@ -76,6 +76,7 @@ fn stmt_end(s: &Stmt, first: usize) -> Option<usize>
         Stmt::Load { .. } => first.checked_add(2),
         Stmt::Store { .. } => first.checked_add(2),
         Stmt::New { .. } => first.checked_add(2),
+        Stmt::Emit { .. } => first.checked_add(2),
         Stmt::Follow { .. } => first.checked_add(3),
         Stmt::Link { .. } => first.checked_add(3),
         Stmt::Cut { .. } => first.checked_add(3),
@@ -218,6 +219,7 @@ fn stmt_step<'a>(s: &'a Stmt, first: usize, at: usize) -> Option<PlainStep<'a>>
         Stmt::New { p, kind } => of_two(at, PlainStep::Make { kind: *kind }, set_hand(*p)),
         Stmt::Link { q, f, p } => of_read(at, *q, *f, write(*q, *f, Content::Local(*p))),
         Stmt::Cut { q, f } => of_read(at, *q, *f, write(*q, *f, Content::Null)),
+        Stmt::Emit { e } => of_two(at, PlainStep::Eval { value: e }, PlainStep::Emit),
         Stmt::Return { e } => of_one(at, PlainStep::Give { value: e }),
         Stmt::If { c, yes, no } => {
             let end = inner_end(yes, first)?;

@@ -115,6 +115,10 @@ fn same_stmt(a: &Stmt, b: &Stmt) -> bool
             Stmt::Return { e: f } => same_expr(e, f),
             _ => false,
         },
+        Stmt::Emit { e } => match b {
+            Stmt::Emit { e: f } => same_expr(e, f),
+            _ => false,
+        },
     }
 }
 
