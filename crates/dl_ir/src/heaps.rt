@@ -195,6 +195,13 @@ impl Heap {
         self.len() == 0
     }
 
+    /// Whether there is memory for so many more objects.
+    pub fn has_room_for(&self, more: usize) -> bool
+        ensures { IsTrue result ↔ (map.len self.now.objects + more ≤ self.now.room) }
+    {
+        self.census.objects.has_room_for(more)
+    }
+
     /// Whether there is no memory for another object.
     pub fn is_full(&self) -> bool
         ensures { IsTrue result ↔ (self.now.room ≤ map.len self.now.objects) }

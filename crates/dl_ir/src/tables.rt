@@ -97,6 +97,13 @@ impl<V> Table<V> {
         self.len
     }
 
+    /// Whether there is memory for so many more values.
+    pub fn has_room_for(&self, more: usize) -> bool
+        ensures { IsTrue result ↔ (map.len self.now.rows + more ≤ self.now.room) }
+    {
+        more <= self.room - self.len
+    }
+
     /// Whether there is no memory for another value.
     pub fn is_full(&self) -> bool
         ensures { IsTrue result ↔ (self.now.room ≤ map.len self.now.rows) }

@@ -1,6 +1,6 @@
 use Rattle.std.specs.FinMap.{len-entries}
 use Rattle.dl_text.proofs.WritingLemmas.{passes_both, passes_fails, puts_both, puts_fails, puts_more}
-use Rattle.dl_history.proofs.heaps.put_heap.Goals as goal
+use Rattle.dl_history.proofs.heap_lines.put_heap.Goals as goal
 
 pub returns-in_err-put_heap_head : goal.returns-in_err-put_heap_head
 returns-in_err-put_heap_head g c =

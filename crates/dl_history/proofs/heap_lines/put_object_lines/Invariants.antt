@@ -2,7 +2,7 @@ use Rattle.std.specs.List.{flat_map}
 use Rattle.std.specs.FinMap.{entries}
 use Rattle.dl_history.specs.Report.{object_line}
 use Rattle.dl_text.proofs.Loops.{PutSoFar}
-use Rattle.dl_history.proofs.heaps.put_object_lines.Given as goal
+use Rattle.dl_history.proofs.heap_lines.put_object_lines.Given as goal
 
 abbrev pub invariant-objects : goal.invariant-objects
 invariant-objects g l = PutSoFar (g.K.Sink.taken l.initial.sink) (g.K.Sink.taken l.sink) l.initial.out l.out

@@ -1,5 +1,5 @@
 use Rattle.dl_text.proofs.WritingLemmas.{passes_both, passes_fails, puts_both, puts_fails, puts_more}
-use Rattle.dl_history.proofs.heaps.put_object_line.Goals as goal
+use Rattle.dl_history.proofs.heap_lines.put_object_line.Goals as goal
 
 pub returns-in_err-put_name : goal.returns-in_err-put_name
 returns-in_err-put_name g c = puts_more _ c.from_residual.ensures.0 (puts_more _ c.from_residual.ensures.0 (puts_fails _ c.from_residual.ensures.0 c.in_err-put_name.ensures))

@@ -2,7 +2,7 @@ use Rattle.std.proofs.Common.{refl, ap}
 use Rattle.std.specs.List.{flat_map}
 use Rattle.dl_text.proofs.Loops.{put_start, put_fails, put_step, put_ends}
 use Rattle.dl_history.specs.Report.{object_line}
-use Rattle.dl_history.proofs.heaps.put_object_lines.Goals as goal
+use Rattle.dl_history.proofs.heap_lines.put_object_lines.Goals as goal
 
 pub objects-init : goal.objects-init
 objects-init g c = rw (c.into_iter-name-iterator.ensures.into_iter_gives, c.iter-name-items.ensures) (put_start _ _ _ c.requires)

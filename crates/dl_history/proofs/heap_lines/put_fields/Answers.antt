@@ -4,7 +4,7 @@ use Rattle.dl_ir.specs.declared.names.Value.TheVariants.{Int}
 use Rattle.dl_history.specs.Report.{field_text}
 use Rattle.dl_text.proofs.Loops.{put_start, put_fails, put_step, put_ends}
 use Rattle.dl_history.proofs.Pairs.{pair_at, zip_ends, below_first, below_second, not_below}
-use Rattle.dl_history.proofs.heaps.put_fields.Goals as goal
+use Rattle.dl_history.proofs.heap_lines.put_fields.Goals as goal
 
 pub fields-init : goal.fields-init
 fields-init g c = put_start _ _ _ c.requires

@@ -1,3 +1,5 @@
+//! The part of a report that tells of the heap.
+
 ghost use Rattle.std.specs.Prelude.{◌≡◌, ◌++◌, codes, slice_get, Some, false, length, Option, filter, nat_lt};
 ghost use Rattle.std.specs.List.{flat_map, zip};
 ghost use Rattle.std.specs.FinMap as finite;
