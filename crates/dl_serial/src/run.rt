@@ -1,3 +1,5 @@
+//! Running statements, blocks and loops.
+
 ghost use Rattle.std.specs.Prelude.{◌≡◌, ◌<◌, ◌≤◌};
 ghost use Rattle.dl_ir.specs.Heap.{HasStart};
 ghost use Rattle.dl_ir.specs.Meaning.{does, block_does, loops};
