@@ -1,3 +1,4 @@
+-- The lemmas of this crate.
 pub mod Answered
 pub mod Bodies
 pub mod Checking

@@ -1,3 +1,4 @@
+-- What contracts on names and types speak of.
 pub mod Checks
 pub mod Declarations
 pub mod Limits
