@@ -12,9 +12,8 @@ use Rattle.dl_ir.specs.declared.names.Name.{Name}
 use Rattle.dl_ir.specs.CallForms.{IsCallOf, AreCallsOf}
 use Rattle.dl_ir.specs.Cover.{call_at}
 use Rattle.dl_ir.specs.Heap.{Objects}
-use Rattle.dl_ir.specs.Meaning.{Context}
 use Rattle.dl_shape.specs.Closed.{AllEndInForest, IsForestClosed}
-use Rattle.dl_shape.specs.Operation.{Result, first_locals, end_of, body_outcome, operated_where}
+use Rattle.dl_shape.specs.Operation.{Result, context_of, begun, end_of, body_outcome, operated_where}
 use Rattle.dl_shape.specs.References.{IsForest}
 use Rattle.dl_shape.specs.Replay.{IsLegal, IsLegalFrom}
 use Rattle.dl_shape.specs.Settling.{trim}
@@ -34,8 +33,7 @@ record Clean (result : Result) : Type 0 where
 clean_op : (source : Module) (heap : Objects) (ticket : ℕ) (arguments : List ℤ) (op : OpDecl) → NoneSealed heap
     → IsForest (trim (body_outcome source heap ticket arguments op).state.objects) → Clean (operated_where source heap ticket arguments (Some op))
 clean_op source heap ticket arguments op none forest =
-    let cx : Context = record { source = source; ticket = ticket; allocs = op.allocs } in
-    let body = block_keeps cx op.body (record { locals = first_locals op arguments; objects = heap; turns = op.fuel; made = 0 }) none in
+    let body = block_keeps (context_of source ticket op) op.body (begun op arguments heap op.fuel) none in
     let after : Objects = (body_outcome source heap ticket arguments op).state.objects in
     record {
       answer = record { passed = end_passed (body_outcome source heap ticket arguments op).end body.passed; seals_none = no_breach after forest };

@@ -1,6 +1,6 @@
 -- Where no object of a heap is sealed, no statement seals one or ends at one.
 use Rattle.std.proofs.Common.{◌≡◌, ◌≢◌, ℕ, zero, suc, ℤ, Bool, true, false, cond, List, [], ◌∷◌, Option, Some, None, Ok, Err, map, refl, sym, ap, subst, ◌∙◌}
-use Rattle.std.specs.Prelude.{◌==◌, slice_get, nat_le, if◌then◌else◌}
+use Rattle.std.specs.Prelude.{◌==◌, length, slice_get, nat_le, if◌then◌else◌}
 use Rattle.std.specs.Ordering.{eq_by_cmp}
 use Rattle.std.specs.FinMap as finite
 use Rattle.std.specs.FinMap.{get-insert}
@@ -17,7 +17,7 @@ use Rattle.dl_ir.specs.declared.statements.Stmt.{Stmt, Stmt-F}
 use Rattle.dl_ir.specs.declared.statements.Stmt.TheFolds.{fold-roll-Stmt, ind-Stmt, map-Stmt}
 use Rattle.dl_ir.specs.Evaluation.{Number, Truth, number_of, target_of, value_of, holds_of}
 use Rattle.dl_ir.specs.Heap.{Objects, name_cmp, with_field_of}
-use Rattle.dl_ir.specs.Meaning.{Context, State, Outcome, Does, goes_on, ends_with, with_value, with_truth, at_object, is_sealed, unless_sealed, refers_in, field_in, set_local, set_field, take_turn, make, next_name, object_of, go_on_from, then_do, in_turn, loops, links_to, step, does, block_does}
+use Rattle.dl_ir.specs.Meaning.{Context, State, Outcome, Does, goes_on, ends_with, with_value, with_truth, at_object, is_sealed, unless_sealed, refers_in, field_in, set_local, set_field, take_turn, add_emitted, make, next_name, object_of, go_on_from, then_do, in_turn, loops, links_to, step, does, block_does}
 use Rattle.dl_ir.proofs.NameOrder.{names_total}
 
 -- no object of the heap is sealed
@@ -132,6 +132,8 @@ layer_keeps cx (Stmt-F.Cut q f) s none = link_keeps q f None s none
 layer_keeps cx (Stmt-F.If c yes_block no_block) s none =
     at_truth (holds_of c s.locals) s _ none (λ b. either b _ _ (all_keep cx yes_block s none) (all_keep cx no_block s none))
 layer_keeps cx (Stmt-F.While c body) s none = loop_keeps s.turns c _ (all_keep cx body) s none
+layer_keeps cx (Stmt-F.Emit e) s none =
+    at_value (value_of e s.locals) s _ none (λ n. either (nat_le 16 (length s.emitted)) _ _ (ended ends.Emits s (λ name is. cc) none) (stays_on (add_emitted n s) none))
 layer_keeps cx (Stmt-F.Return e) s none = at_value (value_of e s.locals) s _ none (λ n. ended (ends.Ok n) s (λ name is. cc) none)
 
 pub statement_keeps : (cx : Context) (d : Stmt) → Keeps (does cx d)

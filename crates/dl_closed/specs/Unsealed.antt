@@ -1,3 +1,4 @@
+-- That a forest-closed module never seals.
 use Rattle.std.specs.Prelude.{◌≡◌, ◌≢◌, None, List, All}
 use Rattle.dl_ir.specs.declared.answers.Answer.{Answer}
 use Rattle.dl_ir.specs.declared.answers.End.TheVariants as ends

@@ -130,6 +130,7 @@ var_apart_in : (x : Lexis) (line : ℕ) → seen starts_statement x line ≡ tru
 var_apart_in (lexis.Fixed f.Var) line h = absurd (cc)
 var_apart_in (lexis.Fixed g) line h = refl
 var_apart_in lexis.One line h = refl
+var_apart_in lexis.Two line h = refl
 var_apart_in (lexis.Number n) line h = refl
 var_apart_in (lexis.Name text) line h = refl
 

@@ -50,6 +50,7 @@ adding_ends_in (lexis.Fixed f.Plus) h = refl
 adding_ends_in (lexis.Fixed f.Minus) h = refl
 adding_ends_in (lexis.Fixed g) h = absurd (cc)
 adding_ends_in lexis.One h = absurd (cc)
+adding_ends_in lexis.Two h = absurd (cc)
 adding_ends_in (lexis.Number n) h = absurd (cc)
 adding_ends_in (lexis.Name text) h = absurd (cc)
 
@@ -127,17 +128,17 @@ module _ (room : ℕ) {reader : ℕ → Reader Counted} {inner : ℕ → Rule Co
       good_choose (comes (fixed f.Minus)) (good_negation used)
       (good_choose (comes (fixed f.LParen)) (good_bracket used)
       (good_choose (comes number) (good_literal used) (good_variable used)
-      (literal_shows (comes number) true (λ line. refl) (λ n line. refl))
+      (literal_shows (comes number) true (λ line. refl) (λ line. refl) (λ n line. refl))
       (λ e ws rest is h. variable_shows (comes number) false (λ text line. refl) e ws rest is))
       (starts_then _ _ (comes (fixed f.LParen)) true (starts_fixed f.LParen (level room) (comes (fixed f.LParen)) true (λ line. refl)))
-      (λ e ws rest is h. starts_or (rule.literal used) (rule.variable used) (comes (fixed f.LParen)) false (literal_shows (comes (fixed f.LParen)) false (λ line. refl) (λ n line. refl)) (variable_shows (comes (fixed f.LParen)) false (λ text line. refl)) e ws rest is))
+      (λ e ws rest is h. starts_or (rule.literal used) (rule.variable used) (comes (fixed f.LParen)) false (literal_shows (comes (fixed f.LParen)) false (λ line. refl) (λ line. refl) (λ n line. refl)) (variable_shows (comes (fixed f.LParen)) false (λ text line. refl)) e ws rest is))
       (starts_then _ _ (comes (fixed f.Minus)) true (starts_fixed f.Minus (level room) (comes (fixed f.Minus)) true (λ line. refl)))
       (λ e ws rest is h. starts_or (rule.bracket room inner used) (Or (rule.literal used) (rule.variable used)) (comes (fixed f.Minus)) false
       (starts_then _ _ (comes (fixed f.Minus)) false (starts_fixed f.LParen (level room) (comes (fixed f.Minus)) false (λ line. refl)))
-      (starts_or (rule.literal used) (rule.variable used) (comes (fixed f.Minus)) false (literal_shows (comes (fixed f.Minus)) false (λ line. refl) (λ n line. refl)) (variable_shows (comes (fixed f.Minus)) false (λ text line. refl))) e ws rest is)
+      (starts_or (rule.literal used) (rule.variable used) (comes (fixed f.Minus)) false (literal_shows (comes (fixed f.Minus)) false (λ line. refl) (λ line. refl) (λ n line. refl)) (variable_shows (comes (fixed f.Minus)) false (λ text line. refl))) e ws rest is)
     where
-      literal_shows : (test : Ahead → Bool) (b : Bool) → ((line : ℕ) → seen test lexis.One line ≡ b) → ((n line : ℕ) → seen test (lexis.Number n) line ≡ b) → Starts (rule.literal used) test b
-      literal_shows test b one many = starts_then _ _ test b (starts_number (at_most 9223372036854775807 (Limit which.Literal)) test b one many)
+      literal_shows : (test : Ahead → Bool) (b : Bool) → ((line : ℕ) → seen test lexis.One line ≡ b) → ((line : ℕ) → seen test lexis.Two line ≡ b) → ((n line : ℕ) → seen test (lexis.Number n) line ≡ b) → Starts (rule.literal used) test b
+      literal_shows test b one two many = starts_then _ _ test b (starts_number (at_most 9223372036854775807 (Limit which.Literal)) test b one two many)
 
       variable_shows : (test : Ahead → Bool) (b : Bool) → ((text : List ℕ) (line : ℕ) → seen test (lexis.Name text) line ≡ b) → Starts (rule.variable used) test b
       variable_shows test b h = starts_then _ _ test b (starts_name free test b h)
@@ -147,12 +148,13 @@ pub record Shows (test : Ahead → Bool) (b : Bool) : Type 0 where
   pub minus : (line : ℕ) → seen test (lexis.Fixed f.Minus) line ≡ b
   pub bracket : (line : ℕ) → seen test (lexis.Fixed f.LParen) line ≡ b
   pub one_is : (line : ℕ) → seen test lexis.One line ≡ b
+  pub two_is : (line : ℕ) → seen test lexis.Two line ≡ b
   pub number_is : (n line : ℕ) → seen test (lexis.Number n) line ≡ b
   pub name_is : (text : List ℕ) (line : ℕ) → seen test (lexis.Name text) line ≡ b
 
 leaf_starts : (used : ℕ) (test : Ahead → Bool) (b : Bool) → Shows test b → Starts (Or (rule.literal used) (rule.variable used)) test b
 leaf_starts used test b s =
-    starts_or (rule.literal used) (rule.variable used) test b (starts_then _ _ test b (starts_number (at_most 9223372036854775807 (Limit which.Literal)) test b s.one_is s.number_is))
+    starts_or (rule.literal used) (rule.variable used) test b (starts_then _ _ test b (starts_number (at_most 9223372036854775807 (Limit which.Literal)) test b s.one_is s.two_is s.number_is))
     (starts_then _ _ test b (starts_name free test b s.name_is))
 
 over_starts : (room : ℕ) (inner : ℕ → Rule Counted) (used : ℕ) (test : Ahead → Bool) (b : Bool) → Shows test b → Starts (rule.factor_over room inner used) test b
@@ -171,7 +173,7 @@ expression_starts room test b s = starts_then _ _ test b (starts_then _ _ test b
 good_leaf : (used : ℕ) → Good (choose (comes number) (read.literal used) (read.variable used)) (Or (rule.literal used) (rule.variable used)) any
 good_leaf used =
     good_choose (comes number) (good_literal used) (good_variable used)
-    (starts_then _ _ (comes number) true (starts_number (at_most 9223372036854775807 (Limit which.Literal)) (comes number) true (λ line. refl) (λ n line. refl)))
+    (starts_then _ _ (comes number) true (starts_number (at_most 9223372036854775807 (Limit which.Literal)) (comes number) true (λ line. refl) (λ line. refl) (λ n line. refl)))
     (λ e ws rest is h. starts_then _ _ (comes number) false (starts_name free (comes number) false (λ text line. refl)) e ws rest is)
 
 pub good_factor : (room used : ℕ) → Good (read.factor room used) (rule.factor room used) any

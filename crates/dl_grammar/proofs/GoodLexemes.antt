@@ -35,12 +35,14 @@ fixed_is_in g (lexis.Fixed h) line l is = same (sameb the_type g h) refl is
     same false eq k = absurd (cc)
 fixed_is_in g (lexis.Name text) line l is = absurd (cc)
 fixed_is_in g lexis.One line l is = absurd (cc)
+fixed_is_in g lexis.Two line l is = absurd (cc)
 fixed_is_in g (lexis.Number n) line l is = absurd (cc)
 
 name_is_in : (x : Lexis) (line : ℕ) (w : Word) → name_in x line ≡ Some w → x ≡ lexis.Name w.text
 name_is_in (lexis.Name text) line w is = let same : record { text = text; line = line } ≡ w = cc in ap (λ (v : Word). lexis.Name v.text) same
 name_is_in (lexis.Fixed h) line w is = absurd (cc)
 name_is_in lexis.One line w is = absurd (cc)
+name_is_in lexis.Two line w is = absurd (cc)
 name_is_in (lexis.Number n) line w is = absurd (cc)
 
 -- ---- what a text that begins with a lexeme shows to a test
@@ -53,20 +55,22 @@ starts_fixed g limit test b h = starts_one (fixed g) limit test b (λ t l v. ap 
 pub starts_name : (limit : Word → Option Bound) (test : Ahead → Bool) (b : Bool) → ((text : List ℕ) (line : ℕ) → seen test (lexis.Name text) line ≡ b) → Starts (One name limit) test b
 starts_name limit test b h = starts_one name limit test b (λ t w v. ap (λ x. seen test x t.line) (name_is_in t.lexis t.line w v) ∙ h w.text t.line)
 
-number_shows : (test : Ahead → Bool) (b : Bool) → ((line : ℕ) → seen test lexis.One line ≡ b) → ((n line : ℕ) → seen test (lexis.Number n) line ≡ b) → (x : Lexis) (line n : ℕ) → number_in x ≡ Some n → seen test x line ≡ b
-number_shows test b one many lexis.One line n v = one line
-number_shows test b one many (lexis.Number m) line n v = many m line
-number_shows test b one many (lexis.Fixed h) line n v = absurd (cc)
-number_shows test b one many (lexis.Name text) line n v = absurd (cc)
+number_shows : (test : Ahead → Bool) (b : Bool) → ((line : ℕ) → seen test lexis.One line ≡ b) → ((line : ℕ) → seen test lexis.Two line ≡ b) → ((n line : ℕ) → seen test (lexis.Number n) line ≡ b) → (x : Lexis) (line n : ℕ) → number_in x ≡ Some n → seen test x line ≡ b
+number_shows test b one two many lexis.One line n v = one line
+number_shows test b one two many lexis.Two line n v = two line
+number_shows test b one two many (lexis.Number m) line n v = many m line
+number_shows test b one two many (lexis.Fixed h) line n v = absurd (cc)
+number_shows test b one two many (lexis.Name text) line n v = absurd (cc)
 
-pub starts_number : (limit : ℕ → Option Bound) (test : Ahead → Bool) (b : Bool) → ((line : ℕ) → seen test lexis.One line ≡ b) → ((n line : ℕ) → seen test (lexis.Number n) line ≡ b) → Starts (One number limit) test b
-starts_number limit test b one many = starts_one number limit test b (λ t n v. number_shows test b one many t.lexis t.line n v)
+pub starts_number : (limit : ℕ → Option Bound) (test : Ahead → Bool) (b : Bool) → ((line : ℕ) → seen test lexis.One line ≡ b) → ((line : ℕ) → seen test lexis.Two line ≡ b) → ((n line : ℕ) → seen test (lexis.Number n) line ≡ b) → Starts (One number limit) test b
+starts_number limit test b one two many = starts_one number limit test b (λ t n v. number_shows test b one two many t.lexis t.line n v)
 
 adding_shows : (test : Ahead → Bool) (b : Bool) → ((line : ℕ) → seen test (lexis.Fixed f.Plus) line ≡ b) → ((line : ℕ) → seen test (lexis.Fixed f.Minus) line ≡ b) → (x : Lexis) (line : ℕ) (o : Op) → adding_in x ≡ Some o → seen test x line ≡ b
 adding_shows test b plus minus (lexis.Fixed f.Plus) line o v = plus line
 adding_shows test b plus minus (lexis.Fixed f.Minus) line o v = minus line
 adding_shows test b plus minus (lexis.Fixed h) line o v = absurd (cc)
 adding_shows test b plus minus lexis.One line o v = absurd (cc)
+adding_shows test b plus minus lexis.Two line o v = absurd (cc)
 adding_shows test b plus minus (lexis.Number n) line o v = absurd (cc)
 adding_shows test b plus minus (lexis.Name text) line o v = absurd (cc)
 
@@ -76,6 +80,7 @@ starts_adding limit test b plus minus = starts_one adding limit test b (λ t o v
 scaling_shows : (test : Ahead → Bool) (b : Bool) → ((g : Fixed) (line : ℕ) → is_some (scaling_in (lexis.Fixed g)) ≡ true → seen test (lexis.Fixed g) line ≡ b) → (x : Lexis) (line : ℕ) (o : Op) → scaling_in x ≡ Some o → seen test x line ≡ b
 scaling_shows test b h (lexis.Fixed g) line o v = h g line (ap is_some v)
 scaling_shows test b h lexis.One line o v = absurd (cc)
+scaling_shows test b h lexis.Two line o v = absurd (cc)
 scaling_shows test b h (lexis.Number n) line o v = absurd (cc)
 scaling_shows test b h (lexis.Name text) line o v = absurd (cc)
 
@@ -85,6 +90,7 @@ starts_scaling limit test b h = starts_one scaling limit test b (λ t o v. scali
 relation_shows : (test : Ahead → Bool) (b : Bool) → ((g : Fixed) (line : ℕ) → is_some (relation_in (lexis.Fixed g)) ≡ true → seen test (lexis.Fixed g) line ≡ b) → (x : Lexis) (line : ℕ) (r : Rel) → relation_in x ≡ Some r → seen test x line ≡ b
 relation_shows test b h (lexis.Fixed g) line o v = h g line (ap is_some v)
 relation_shows test b h lexis.One line o v = absurd (cc)
+relation_shows test b h lexis.Two line o v = absurd (cc)
 relation_shows test b h (lexis.Number n) line o v = absurd (cc)
 relation_shows test b h (lexis.Name text) line o v = absurd (cc)
 

@@ -35,10 +35,10 @@ abbrev pub apart : (g : Fixed) → Type 0
 apart g = Shows (comes (fixed g)) false
 
 null_apart : apart f.Null
-null_apart = record { minus = λ line. refl; bracket = λ line. refl; one_is = λ line. refl; number_is = λ n line. refl; name_is = λ text line. refl }
+null_apart = record { minus = λ line. refl; bracket = λ line. refl; one_is = λ line. refl; two_is = λ line. refl; number_is = λ n line. refl; name_is = λ text line. refl }
 
 new_apart : apart f.New
-new_apart = record { minus = λ line. refl; bracket = λ line. refl; one_is = λ line. refl; number_is = λ n line. refl; name_is = λ text line. refl }
+new_apart = record { minus = λ line. refl; bracket = λ line. refl; one_is = λ line. refl; two_is = λ line. refl; number_is = λ n line. refl; name_is = λ text line. refl }
 
 no_bound : (o : Ahead) → ends_sum o ≡ true → any o ≡ true
 no_bound o h = refl
@@ -181,7 +181,7 @@ sum_name_over room inner T g ws rest is named =
       | inr m ↦ elim (or_to (rule.bracket room inner 0) (Or (rule.literal 0) (rule.variable 0)) T g ws m) [
         | inl n ↦ let no = starts_then _ _ (comes name) false (starts_then _ _ (comes name) false (starts_fixed f.LParen (rule.level room) (comes name) false (λ line. refl))) g ws rest n in absurd (cc)
         | inr k ↦ elim (or_to (rule.literal 0) (rule.variable 0) T g ws k) [
-          | inl n ↦ let no = starts_then _ _ (comes name) false (starts_then _ _ (comes name) false (starts_number (rule.at_most 9223372036854775807 (Limit which.Literal)) (comes name) false (λ line. refl) (λ n line. refl))) g ws rest n in absurd (cc)
+          | inl n ↦ let no = starts_then _ _ (comes name) false (starts_then _ _ (comes name) false (starts_number (rule.at_most 9223372036854775807 (Limit which.Literal)) (comes name) false (λ line. refl) (λ line. refl) (λ n line. refl))) g ws rest n in absurd (cc)
           | inr v ↦ v
         ]
       ]

@@ -9,7 +9,7 @@ use Rattle.dl_grammar.specs.declared.lexeme.Lexeme.{Lexeme}
 use Rattle.dl_grammar.specs.declared.tree.Word.{Word}
 use Rattle.dl_grammar.specs.declared.tree.TreeStmt.{TreeStmt, roll-TreeStmt}
 use Rattle.dl_grammar.specs.declared.tree.What.TheVariants as what
-use Rattle.dl_grammar.specs.Grammar.{Ending, Rule, One, Nothing, Empty, Then, Or, Ahead, ahead, Reader}
+use Rattle.dl_grammar.specs.Grammar.{Ending, Rule, One, Nothing, Empty, Then, Or, Ahead, ahead, Reader, choose}
 use Rattle.dl_grammar.specs.Rules as rule
 use Rattle.dl_grammar.specs.Rules.{fixed, name, type_name, number, version, free, level, one_more, at_most, more_roots, Kinds}
 use Rattle.dl_grammar.specs.Readers as read
@@ -54,6 +54,11 @@ unfolding read.returning
 good_returning room = good_then (good_word f.Return refl) (λ l. good_before (good_expression room) (λ x. starts_then _ _ ends_sum true (word_shows f.Semicolon ends_sum true (λ line. refl)))
     (λ x. good_map (λ (m : ℕ). roll-TreeStmt (record { line = l; what = what.Return x })) (good_word f.Semicolon refl)))
 
+good_emitting : (room : ℕ) → Good (read.emitting room) (rule.emitting room) any
+unfolding read.emitting
+good_emitting room = good_then (good_word f.Emit refl) (λ l. good_before (good_expression room) (λ x. starts_then _ _ ends_sum true (word_shows f.Semicolon ends_sum true (λ line. refl)))
+    (λ x. good_map (λ (m : ℕ). roll-TreeStmt (record { line = l; what = what.Emit x })) (good_word f.Semicolon refl)))
+
 -- ---- statements, over good readers of statements
 abbrev pub StatementStarts : Rule TreeStmt → Type 0
 StatementStarts S = Starts S starts_statement true
@@ -75,6 +80,7 @@ else_apart_in : (x : Lexis) (line : ℕ) → seen starts_statement x line ≡ tr
 else_apart_in (lexis.Fixed f.Else) line h = absurd (cc)
 else_apart_in (lexis.Fixed g) line h = refl
 else_apart_in lexis.One line h = refl
+else_apart_in lexis.Two line h = refl
 else_apart_in (lexis.Number n) line h = refl
 else_apart_in (lexis.Name text) line h = refl
 
@@ -123,28 +129,43 @@ module _ {reader : Reader TreeStmt} {S : Rule TreeStmt} (good : Good reader S no
   returning_shows : (room : ℕ) (test : Ahead → Bool) (b : Bool) → ((line : ℕ) → seen test (lexis.Fixed f.Return) line ≡ b) → Starts (rule.returning room) test b
   returning_shows room test b h = starts_then _ _ test b (word_shows f.Return test b h)
 
+  emitting_shows : (room : ℕ) (test : Ahead → Bool) (b : Bool) → ((line : ℕ) → seen test (lexis.Fixed f.Emit) line ≡ b) → Starts (rule.emitting room) test b
+  emitting_shows room test b h = starts_then _ _ test b (word_shows f.Emit test b h)
+
+  -- a statement that is no block
+  simple_shows : (room : ℕ) (test : Ahead → Bool) (b : Bool) → ((line : ℕ) → seen test (lexis.Fixed f.Emit) line ≡ b) → ((text : List ℕ) (line : ℕ) → seen test (lexis.Name text) line ≡ b)
+      → Starts (Or (rule.emitting room) (rule.setting room)) test b
+  simple_shows room test b h k = starts_or (rule.emitting room) (rule.setting room) test b (emitting_shows room test b h) (setting_shows room test b k)
+
   loop_shows : (room : ℕ) (test : Ahead → Bool) (b : Bool) → ((line : ℕ) → seen test (lexis.Fixed f.While) line ≡ b) → Starts (rule.loop room S) test b
   loop_shows room test b h = starts_then _ _ test b (word_shows f.While test b h)
+
+  good_simple : (room : ℕ) → Good (choose (comes (fixed f.Emit)) (read.emitting room) (read.setting room)) (Or (rule.emitting room) (rule.setting room)) no_else
+  good_simple room =
+      good_choose (comes (fixed f.Emit)) (good_narrow (good_emitting room) no_else (widens no_else)) (good_narrow (good_setting room) no_else (widens no_else))
+      (emitting_shows room (comes (fixed f.Emit)) true (λ line. refl))
+      (λ g ws rest is h. setting_shows room (comes (fixed f.Emit)) false (λ text line. refl) g ws rest is)
 
   pub good_statement_over : (room : ℕ) → Good (read.statement_over room reader) (rule.statement_over room S) no_else
   unfolding read.statement_over
   good_statement_over room =
       good_choose (comes (fixed f.If)) (good_branching room)
       (good_choose (comes (fixed f.While)) (good_narrow (good_loop room) no_else (widens no_else))
-      (good_choose (comes (fixed f.Return)) (good_narrow (good_returning room) no_else (widens no_else)) (good_narrow (good_setting room) no_else (widens no_else))
+      (good_choose (comes (fixed f.Return)) (good_narrow (good_returning room) no_else (widens no_else)) (good_simple room)
       (returning_shows room (comes (fixed f.Return)) true (λ line. refl))
-      (λ g ws rest is h. setting_shows room (comes (fixed f.Return)) false (λ text line. refl) g ws rest is))
+      (λ g ws rest is h. simple_shows room (comes (fixed f.Return)) false (λ line. refl) (λ text line. refl) g ws rest is))
       (loop_shows room (comes (fixed f.While)) true (λ line. refl))
-      (λ g ws rest is h. starts_or (rule.returning room) (rule.setting room) (comes (fixed f.While)) false (returning_shows room (comes (fixed f.While)) false (λ line. refl)) (setting_shows room (comes (fixed f.While)) false (λ text line. refl)) g ws rest is))
+      (λ g ws rest is h. starts_or (rule.returning room) (Or (rule.emitting room) (rule.setting room)) (comes (fixed f.While)) false (returning_shows room (comes (fixed f.While)) false (λ line. refl)) (simple_shows room (comes (fixed f.While)) false (λ line. refl) (λ text line. refl)) g ws rest is))
       (starts_then _ _ (comes (fixed f.If)) true (word_shows f.If (comes (fixed f.If)) true (λ line. refl)))
-      (λ g ws rest is h. starts_or (rule.loop room S) (Or (rule.returning room) (rule.setting room)) (comes (fixed f.If)) false (loop_shows room (comes (fixed f.If)) false (λ line. refl))
-      (starts_or (rule.returning room) (rule.setting room) (comes (fixed f.If)) false (returning_shows room (comes (fixed f.If)) false (λ line. refl)) (setting_shows room (comes (fixed f.If)) false (λ text line. refl))) g ws rest is)
+      (λ g ws rest is h. starts_or (rule.loop room S) (Or (rule.returning room) (Or (rule.emitting room) (rule.setting room))) (comes (fixed f.If)) false (loop_shows room (comes (fixed f.If)) false (λ line. refl))
+      (starts_or (rule.returning room) (Or (rule.emitting room) (rule.setting room)) (comes (fixed f.If)) false (returning_shows room (comes (fixed f.If)) false (λ line. refl)) (simple_shows room (comes (fixed f.If)) false (λ line. refl) (λ text line. refl))) g ws rest is)
 
 over_shows : (room : ℕ) (S : Rule TreeStmt) → StatementStarts (rule.statement_over room S)
 over_shows room S =
-    starts_or (rule.branch room S) (Or (rule.loop room S) (Or (rule.returning room) (rule.setting room))) starts_statement true (starts_then _ _ starts_statement true (word_shows f.If starts_statement true (λ line. refl)))
-    (starts_or (rule.loop room S) (Or (rule.returning room) (rule.setting room)) starts_statement true (starts_then _ _ starts_statement true (word_shows f.While starts_statement true (λ line. refl)))
-    (starts_or (rule.returning room) (rule.setting room) starts_statement true (starts_then _ _ starts_statement true (word_shows f.Return starts_statement true (λ line. refl))) (starts_then _ _ starts_statement true (starts_name free starts_statement true (λ text line. refl)))))
+    starts_or (rule.branch room S) (Or (rule.loop room S) (Or (rule.returning room) (Or (rule.emitting room) (rule.setting room)))) starts_statement true (starts_then _ _ starts_statement true (word_shows f.If starts_statement true (λ line. refl)))
+    (starts_or (rule.loop room S) (Or (rule.returning room) (Or (rule.emitting room) (rule.setting room))) starts_statement true (starts_then _ _ starts_statement true (word_shows f.While starts_statement true (λ line. refl)))
+    (starts_or (rule.returning room) (Or (rule.emitting room) (rule.setting room)) starts_statement true (starts_then _ _ starts_statement true (word_shows f.Return starts_statement true (λ line. refl)))
+    (starts_or (rule.emitting room) (rule.setting room) starts_statement true (starts_then _ _ starts_statement true (word_shows f.Emit starts_statement true (λ line. refl))) (starts_then _ _ starts_statement true (starts_name free starts_statement true (λ text line. refl))))))
 
 pub statement_shows : (room : ℕ) → StatementStarts (rule.statement room)
 statement_shows zero = over_shows zero (rule.returning zero)

@@ -12,3 +12,4 @@ pub mod MoreSteps
 pub mod Whole
 pub mod Always
 pub mod Limited
+pub mod Versions

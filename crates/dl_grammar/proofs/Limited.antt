@@ -1,6 +1,6 @@
 -- Each tree that is spelled is in the limits.
-use Rattle.std.proofs.Common.{◌≡◌, ℕ, ◌+◌, ◌≤◌, ◌<◌, Bool, true, false, List, [], ◌∷◌, ◌++◌, length, length-append, Some, None, Result, Ok, Err, nat_le, nat_lt, refl, sym, ap, ◌∙◌, subst, arith}
-use Rattle.std.specs.Prelude.{All, sum_by, IfOk}
+use Rattle.std.proofs.Common.{◌≡◌, ℕ, ◌+◌, ◌≤◌, ◌<◌, Bool, true, false, List, [], ◌∷◌, ◌++◌, length, length-append, Some, None, inl, inr, Result, Ok, Err, nat_le, nat_lt, refl, sym, ap, ◌∙◌, subst, arith}
+use Rattle.std.specs.Prelude.{◌⊎◌, All, sum_by, IfOk}
 use Rattle.std.proofs.lemmas.Bool.Decides.{leb_tells}
 use Rattle.std.proofs.lemmas.List.Elements.{All-push, All-nil}
 use Rattle.std.proofs.lemmas.List.Sums.{sum_by_push}
@@ -37,11 +37,15 @@ at_most_so most b n h = let is = kept_back (nat_lt most n) b h in grind (arith, 
 root_count : (roots n : ℕ) → more_roots roots n ≡ None → (1 ≤ n) × (roots + n ≤ 1024)
 root_count roots n h = grind (arith, leb_tells)
 
-version_one : (l : Lexis) (v : ℕ) → version_in l ≡ Some v → v ≡ 1
-version_one lexis.One v h = cc
-version_one (lexis.Number n) v h = absurd (cc)
-version_one (lexis.Fixed g) v h = absurd (cc)
-version_one (lexis.Name text) v h = absurd (cc)
+abbrev IsVersion : ℕ → Type 0
+IsVersion v = (v ≡ 1) ⊎ (v ≡ 2)
+
+a_version : (l : Lexis) (v : ℕ) → version_in l ≡ Some v → IsVersion v
+a_version lexis.One v h = inl (cc)
+a_version lexis.Two v h = inr (cc)
+a_version (lexis.Number n) v h = absurd (cc)
+a_version (lexis.Fixed g) v h = absurd (cc)
+a_version (lexis.Name text) v h = absurd (cc)
 
 -- ---- fields
 always_name : (most stand : ℕ) (b : Bound) → Always (λ (w : Word). stand < most) (One rule.name (one_more most stand b))
@@ -140,16 +144,16 @@ always_ops = always_many always_op [] (record { few = omega arith; each = All-ni
 
 -- ---- modules
 record IsSmall (d : Declared) : Type 0 where
-  version : d.version ≡ 1
+  version : IsVersion d.version
   roots : ℕ
   kinds : KindsSoFar (d.kinds, roots)
   ops : OpsSoFar d.ops
 
 always_module : Always IsSmall rule.module_text
 always_module =
-    always_behind (λ l. always_then (always_one (λ v. v ≡ 1) _ _ (λ t v is free. version_one t.lexis v is)) (λ v one.
+    always_behind (λ l. always_then (always_one IsVersion _ _ (λ t v is free. a_version t.lexis v is)) (λ v known.
     always_then always_kinds (λ ks kinds. always_then always_ops (λ os ops.
-    always_nothing _ _ (record { version = one; roots = ks.1; kinds = kinds; ops = ops })))))
+    always_nothing _ _ (record { version = known; roots = ks.1; kinds = kinds; ops = ops })))))
 
 pub spelled_in_limits : (bytes : List ℕ) (tree : Tree) → Spells bytes tree → IsInLimits tree
 spelled_in_limits bytes tree h = subst IsInLimits (sym h.4) (record {

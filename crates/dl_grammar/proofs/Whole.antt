@@ -30,6 +30,10 @@ pub first_in_order : (from size : ℕ) (ts : List Token) (d : Token) → InOrder
 first_in_order from size [] d h l = absurd (omega arith)
 first_in_order from size (t ∷ ts) d h l = let later = in_order_le t.end size ts h.2 in (omega (arith, h.1), later)
 
+pub second_in_order : (from size : ℕ) (ts : List Token) (d : Token) → InOrder from size ts → 1 < length ts → ((get_or ts 1 d).at ≤ (get_or ts 1 d).end) × ((get_or ts 1 d).end ≤ size)
+second_in_order from size [] d h l = absurd (omega arith)
+second_in_order from size (t ∷ ts) d h l = first_in_order t.end size ts d h.2 (omega arith)
+
 -- ---- one kind of fault or the other
 pub data View (bytes : List ℕ) (g : SyntaxFault) : Type 0 where
   Textual : (t : TextFault) → IsTextFault bytes t → g ≡ text_fault t → View bytes g

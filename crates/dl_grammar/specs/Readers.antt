@@ -113,9 +113,12 @@ setting room = one name free >>= λ x. choose (comes (fixed f.Assign)) (assignme
 unfoldable pub returning : ℕ → Reader TreeStmt
 returning room = word f.Return >>= λ l. expression room >>= λ x. word f.Semicolon >>= λ m. pure (roll-TreeStmt (record { line = l; what = what.Return x }))
 
+unfoldable pub emitting : ℕ → Reader TreeStmt
+emitting room = word f.Emit >>= λ l. expression room >>= λ x. word f.Semicolon >>= λ m. pure (roll-TreeStmt (record { line = l; what = what.Emit x }))
+
 -- a statement comes next
 abbrev pub starts_statement : Ahead → Bool
-starts_statement o = comes (fixed f.If) o || comes (fixed f.While) o || comes (fixed f.Return) o || comes name o
+starts_statement o = comes (fixed f.If) o || comes (fixed f.While) o || comes (fixed f.Return) o || comes (fixed f.Emit) o || comes name o
 
 -- statements behind others
 unfoldable pub statements_from : Reader TreeStmt → List TreeStmt → Reader (List TreeStmt)
@@ -139,7 +142,8 @@ branch room inner =
     word f.If >>= λ l. word f.LParen >>= λ m. condition room >>= λ c. word f.RParen >>= λ n. block room inner >>= λ yes. otherwise room inner >>= λ no_block. pure (roll-TreeStmt (record { line = l; what = what.If c yes no_block }))
 
 unfoldable pub statement_over : ℕ → Reader TreeStmt → Reader TreeStmt
-statement_over room inner = choose (comes (fixed f.If)) (branch room inner) (choose (comes (fixed f.While)) (repetition room inner) (choose (comes (fixed f.Return)) (returning room) (setting room)))
+statement_over room inner = choose (comes (fixed f.If)) (branch room inner) (choose (comes (fixed f.While)) (repetition room inner) (choose (comes (fixed f.Return)) (returning room)
+    (choose (comes (fixed f.Emit)) (emitting room) (setting room))))
 
 abbrev pub statement : ℕ → Reader TreeStmt
 statement zero = statement_over zero (returning zero)

@@ -36,6 +36,7 @@ abbrev pub fixed_in : Fixed → Lexis → ℕ → Option ℕ
 fixed_in g (lexis.Fixed h) line = if sameb the_type g h then Some line else None
 fixed_in g (lexis.Name text) line = None
 fixed_in g lexis.One line = None
+fixed_in g lexis.Two line = None
 fixed_in g (lexis.Number n) line = None
 
 -- a reserved word or a symbol: its value is its line
@@ -47,6 +48,7 @@ abbrev pub name_in : Lexis → ℕ → Option Word
 name_in (lexis.Name text) line = Some (record { text = text; line = line })
 name_in (lexis.Fixed h) line = None
 name_in lexis.One line = None
+name_in lexis.Two line = None
 name_in (lexis.Number n) line = None
 
 -- a name
@@ -59,6 +61,7 @@ type_in (lexis.Name text) line = Some (record { text = text; line = line })
 type_in (lexis.Fixed f.Int) line = Some (record { text = codes "int"; line = line })
 type_in (lexis.Fixed h) line = None
 type_in lexis.One line = None
+type_in lexis.Two line = None
 type_in (lexis.Number n) line = None
 
 -- a type: a name, or the word int
@@ -68,6 +71,7 @@ type_name t = type_in t.lexis t.line
 -- the value of a number
 abbrev pub number_in : Lexis → Option ℕ
 number_in lexis.One = Some 1
+number_in lexis.Two = Some 2
 number_in (lexis.Number n) = Some n
 number_in (lexis.Fixed h) = None
 number_in (lexis.Name text) = None
@@ -76,14 +80,15 @@ number_in (lexis.Name text) = None
 abbrev pub number : Lexeme → Option ℕ
 number t = number_in t.lexis
 
--- 1, where the text of the number is 1
+-- 1 or 2, where the text of the number is that digit
 abbrev pub version_in : Lexis → Option ℕ
 version_in lexis.One = Some 1
+version_in lexis.Two = Some 2
 version_in (lexis.Number n) = None
 version_in (lexis.Fixed h) = None
 version_in (lexis.Name text) = None
 
--- the version: the number whose text is 1
+-- the version: the number whose text is 1 or 2
 abbrev pub version : Lexeme → Option ℕ
 version t = version_in t.lexis
 
@@ -93,6 +98,7 @@ adding_in (lexis.Fixed f.Plus) = Some op.Add
 adding_in (lexis.Fixed f.Minus) = Some op.Sub
 adding_in (lexis.Fixed h) = None
 adding_in lexis.One = None
+adding_in lexis.Two = None
 adding_in (lexis.Number n) = None
 adding_in (lexis.Name text) = None
 
@@ -107,6 +113,7 @@ scaling_in (lexis.Fixed f.Slash) = Some op.Div
 scaling_in (lexis.Fixed f.Percent) = Some op.Rem
 scaling_in (lexis.Fixed h) = None
 scaling_in lexis.One = None
+scaling_in lexis.Two = None
 scaling_in (lexis.Number n) = None
 scaling_in (lexis.Name text) = None
 
@@ -122,6 +129,7 @@ relation_in (lexis.Fixed f.Equal) = Some rel.Equal
 relation_in (lexis.Fixed f.NotEqual) = Some rel.NotEqual
 relation_in (lexis.Fixed h) = None
 relation_in lexis.One = None
+relation_in lexis.Two = None
 relation_in (lexis.Number n) = None
 relation_in (lexis.Name text) = None
 
@@ -236,6 +244,10 @@ setting room = Then (One name free) (λ x. Or
 abbrev pub returning : ℕ → Rule TreeStmt
 returning room = Then (word f.Return) (λ l. Then (expression room) (λ x. Then (word f.Semicolon) (λ m. Nothing (roll-TreeStmt (record { line = l; what = what.Return x })))))
 
+-- "emit" sum ";": a reserved word stands first, so no text of version 1 has one
+abbrev pub emitting : ℕ → Rule TreeStmt
+emitting room = Then (word f.Emit) (λ l. Then (expression room) (λ x. Then (word f.Semicolon) (λ m. Nothing (roll-TreeStmt (record { line = l; what = what.Emit x })))))
+
 -- statements, one behind the other
 abbrev pub statements : Rule TreeStmt → Rule (List TreeStmt)
 statements statement = Many (λ before. Then statement (λ s. Nothing (before ++ s ∷ []))) []
@@ -260,7 +272,7 @@ branch room inner = Then (word f.If) (λ l. Then (word f.LParen) (λ m. Then (co
 
 -- stmt, where so many levels are left, over the statements one level below
 abbrev pub statement_over : ℕ → Rule TreeStmt → Rule TreeStmt
-statement_over room inner = Or (branch room inner) (Or (loop room inner) (Or (returning room) (setting room)))
+statement_over room inner = Or (branch room inner) (Or (loop room inner) (Or (returning room) (Or (emitting room) (setting room))))
 
 -- a statement where so many levels are left. Where none is, nothing stands below.
 abbrev pub statement : ℕ → Rule TreeStmt
@@ -317,6 +329,6 @@ abbrev pub op_behind : List TreeOp → Rule (List TreeOp)
 op_behind before = Then (word f.Op) (λ l. Then (One name (one_more 64 (length before) (Limit which.Ops))) (λ w. Then (word f.LParen) (λ m. Then (fields_behind 32 (Limit which.Locals) 0) (λ params. Then (word f.RParen) (λ n.
     Then quotas (λ q. Then (body w params q.0 q.1) (λ o. Nothing (before ++ o ∷ []))))))))
 
--- module = "domlock" "1" kind* op*
+-- module = "domlock" ( "1" | "2" ) kind* op*
 abbrev pub module_text : Rule Declared
 module_text = Then (word f.Domlock) (λ l. Then (One version free) (λ v. Then (Many kind ([], 0)) (λ ks. Then (Many op_behind []) (λ os. Nothing (record { version = v; kinds = ks.0; ops = os })))))

@@ -1,5 +1,5 @@
 -- Which bytes spell which module, and the first fault of the others.
-use Rattle.std.specs.Prelude.{◌≡◌, ℕ, Bool, if◌then◌else◌, List, [], ◌∷◌, ◌++◌, map, slice_range, codes, Option, Some, None, Result, Ok, Err}
+use Rattle.std.specs.Prelude.{◌≡◌, ℕ, Bool, ◌==◌, ◌&&◌, if◌then◌else◌, List, [], ◌∷◌, ◌++◌, map, slice_range, codes, Option, Some, None, Result, Ok, Err}
 use Rattle.std.specs.Str.{bytes_eq}
 use Rattle.dl_text.specs.declared.token.Token.{Token}
 use Rattle.dl_text.specs.declared.token.TokenKind.{TokenKind}
@@ -26,9 +26,9 @@ use Rattle.dl_grammar.specs.Rules.{module_text}
 unfoldable pub is_text : List ℕ → List ℕ → Bool
 is_text a b = bytes_eq a b
 
--- the reserved word that a word is
-abbrev pub reserved : List ℕ → Option Fixed
-reserved word =
+-- the reserved word that a word is in a text of the version: emit is one in version 2 alone
+abbrev pub reserved : ℕ → List ℕ → Option Fixed
+reserved version word =
     if is_text word (codes "domlock") then Some f.Domlock
     else (if is_text word (codes "root") then Some f.Root
     else (if is_text word (codes "node") then Some f.Node
@@ -43,7 +43,8 @@ reserved word =
     else (if is_text word (codes "else") then Some f.Else
     else (if is_text word (codes "while") then Some f.While
     else (if is_text word (codes "return") then Some f.Return
-    else None)))))))))))))
+    else (if version == 2 && is_text word (codes "emit") then Some f.Emit
+    else None))))))))))))))
 
 -- the symbol that a symbol's text is: one of these, and else !=
 abbrev pub symbol : List ℕ → Fixed
@@ -72,19 +73,33 @@ abbrev pub word_lexis : List ℕ → Option Fixed → Lexis
 word_lexis bytes (Some g) = lexis.Fixed g
 word_lexis bytes None = lexis.Name bytes
 
--- what a token of these bytes says to the grammar
-abbrev pub lexis_of : TokenKind → List ℕ → Lexis
-lexis_of kind.Word bytes = word_lexis bytes (reserved bytes)
-lexis_of (kind.Number n) bytes = if is_text bytes (codes "1") then lexis.One else lexis.Number n
-lexis_of kind.Symbol bytes = lexis.Fixed (symbol bytes)
+-- a number, apart from the two that name a version
+abbrev pub digits_lexis : List ℕ → ℕ → Lexis
+digits_lexis bytes n = if is_text bytes (codes "1") then lexis.One else (if is_text bytes (codes "2") then lexis.Two else lexis.Number n)
 
--- a token of a text as the grammar sees it
-abbrev pub lexeme_of : List ℕ → Token → Lexeme
-lexeme_of bytes t = record { lexis = lexis_of t.kind (slice_range bytes t.at t.end); line = t.line }
+-- what a token of these bytes says to the grammar in a text of the version
+abbrev pub lexis_of : ℕ → TokenKind → List ℕ → Lexis
+lexis_of version kind.Word bytes = word_lexis bytes (reserved version bytes)
+lexis_of version (kind.Number n) bytes = digits_lexis bytes n
+lexis_of version kind.Symbol bytes = lexis.Fixed (symbol bytes)
 
--- the tokens of a text as the grammar sees them
+-- a token of a text of the version as the grammar sees it
+abbrev pub lexeme_of : ℕ → List ℕ → Token → Lexeme
+lexeme_of version bytes t = record { lexis = lexis_of version t.kind (slice_range bytes t.at t.end); line = t.line }
+
+-- the tokens of a text of the version as the grammar sees them
+abbrev pub lexemes_in : ℕ → List ℕ → List Token → List Lexeme
+lexemes_in version bytes ts = map (lexeme_of version bytes) ts
+
+-- the version of a text: 2 where its second token is 2, and else 1
+abbrev pub version_of : List ℕ → List Token → ℕ
+version_of bytes (first ∷ second ∷ ts) = if is_text (slice_range bytes second.at second.end) (codes "2") then 2 else 1
+version_of bytes (first ∷ []) = 1
+version_of bytes [] = 1
+
+-- the tokens of a text as the grammar sees them: what its version reserves is reserved in all of it
 abbrev pub lexemes_of : List ℕ → List Token → List Lexeme
-lexemes_of bytes ts = map (lexeme_of bytes) ts
+lexemes_of bytes ts = lexemes_in (version_of bytes ts) bytes ts
 
 -- the line of the last one, or of what is before
 abbrev pub last_line : ℕ → List Lexeme → ℕ

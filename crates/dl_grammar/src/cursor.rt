@@ -1,3 +1,4 @@
+//! The lexemes that are still to be read, and how one of them is taken.
 ghost use Rattle.std.specs.Prelude.{◌≡◌, ◌+◌, ◌≤◌, ◌<◌, OnOk, IfOk};
 ghost use Rattle.dl_grammar.specs.Grammar.{Gives, ahead, one};
 ghost use Rattle.dl_grammar.specs.Rules as rule;
@@ -55,7 +56,7 @@ impl Cursor<'_> {
             self.rest,
             [
                 Lexeme {
-                    lexis: Lexis::One | Lexis::Number(_),
+                    lexis: Lexis::One | Lexis::Two | Lexis::Number(_),
                     ..
                 },
                 ..
@@ -66,7 +67,11 @@ impl Cursor<'_> {
     pub(crate) fn at_statement(&self) -> bool
         ensures { result ≡ starts_statement (ahead self.now.rest.now) }
     {
-        self.at(Fixed::If) || self.at(Fixed::While) || self.at(Fixed::Return) || self.at_name()
+        self.at(Fixed::If)
+            || self.at(Fixed::While)
+            || self.at(Fixed::Return)
+            || self.at(Fixed::Emit)
+            || self.at_name()
     }
 
     pub(crate) fn at_kind(&self) -> bool
@@ -156,6 +161,13 @@ impl Cursor<'_> {
                 },
                 rest @ ..,
             ] => (1, rest),
+            [
+                Lexeme {
+                    lexis: Lexis::Two,
+                    ..
+                },
+                rest @ ..,
+            ] => (2, rest),
             [
                 Lexeme {
                     lexis: Lexis::Number(number),
@@ -320,6 +332,16 @@ impl Cursor<'_> {
                 self.rest = rest;
                 Ok(1)
             }
+            [
+                Lexeme {
+                    lexis: Lexis::Two,
+                    ..
+                },
+                rest @ ..,
+            ] => {
+                self.rest = rest;
+                Ok(2)
+            }
             _ => Err(Fault::Expected),
         }
     }
@@ -399,6 +421,13 @@ impl Cursor<'_> {
                 },
                 rest @ ..,
             ] => (1, rest),
+            [
+                Lexeme {
+                    lexis: Lexis::Two,
+                    ..
+                },
+                rest @ ..,
+            ] => (2, rest),
             [
                 Lexeme {
                     lexis: Lexis::Number(number),

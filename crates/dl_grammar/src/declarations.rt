@@ -1,3 +1,4 @@
+//! How kinds, operations and whole modules are read.
 ghost use Rattle.std.specs.Prelude.{◌≡◌, ◌+◌, ◌≤◌, ◌<◌, OnOk, IfOk, length};
 ghost use Rattle.dl_grammar.specs.Grammar.{Gives};
 ghost use Rattle.dl_grammar.specs.Readers as read;

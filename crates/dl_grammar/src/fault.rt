@@ -1,3 +1,4 @@
+//! The limits of module texts, and the faults of texts that are none.
 ghost use Rattle.std.specs.Prelude.{◌≡◌};
 ghost use Rattle.dl_grammar.specs.declared.fault.Fault.TheVariants.{Memory};
 

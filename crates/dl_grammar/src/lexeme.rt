@@ -1,3 +1,4 @@
+//! The lexemes of a text: what its tokens say to the grammar.
 use sqlite_items::Items;
 
 /// A reserved word or a symbol.
@@ -17,6 +18,8 @@ pub enum Fixed {
     Else,
     While,
     Return,
+    /// Reserved in version 2 alone.
+    Emit,
     LBrace,
     RBrace,
     LParen,
@@ -45,6 +48,8 @@ pub enum Lexis {
     Name(Items<u8>),
     /// The number whose text is `1`.
     One,
+    /// The number whose text is `2`.
+    Two,
     /// Any other number.
     Number(u64),
 }

@@ -1,9 +1,10 @@
+//! From the bytes of a text to its tree or its first fault.
 ghost use Rattle.std.specs.Prelude.{◌≡◌, ◌≢◌, ℕ, ◌≤◌, length, IfOk, IfErr, MatchResult, List, slice_range};
 ghost use Rattle.dl_text.specs.Text.{InOrder};
 ghost use Rattle.dl_grammar.specs.Grammar.{finish};
 ghost use Rattle.dl_grammar.specs.Limits.{IsInLimits};
 ghost use Rattle.dl_grammar.specs.Readers as read;
-ghost use Rattle.dl_grammar.specs.Texts.{is_text, reserved, symbol, lexis_of, lexeme_of, lexemes_of, last_line, line_at, fault_in, text_fault, Answers, Spells, IsSyntaxFault};
+ghost use Rattle.dl_grammar.specs.Texts.{is_text, reserved, symbol, digits_lexis, lexis_of, version_of, lexemes_in, last_line, line_at, fault_in, text_fault, Answers, Spells, IsSyntaxFault};
 ghost use Rattle.dl_grammar.specs.declared.tree.Tree.{Tree as TreeOf};
 ghost use Rattle.dl_grammar.specs.declared.fault.SyntaxFault.{SyntaxFault as FaultOf};
 
@@ -78,9 +79,9 @@ fn read_lexemes(alloc: Global, all: &[Lexeme]) -> Result<Tree, SyntaxFault>
     })
 }
 
-/// The reserved word that a word is.
-fn reserved(word: &[u8]) -> Option<Fixed>
-    ensures { result ≡ reserved word.now }
+/// The reserved word that a word is in a text of the version.
+fn reserved(version: u32, word: &[u8]) -> Option<Fixed>
+    ensures { result ≡ reserved version word.now }
 {
     if is_text(word, b"domlock") {
         Some(Fixed::Domlock)
@@ -110,6 +111,8 @@ fn reserved(word: &[u8]) -> Option<Fixed>
         Some(Fixed::While)
     } else if is_text(word, b"return") {
         Some(Fixed::Return)
+    } else if version == 2 && is_text(word, b"emit") {
+        Some(Fixed::Emit)
     } else {
         None
     }
@@ -158,29 +161,36 @@ fn symbol(bytes: &[u8]) -> Fixed
     }
 }
 
-fn word_lexis(alloc: Global, bytes: &[u8]) -> Result<Lexis, AllocError>
-    ensures { IfOk result (λ found. found ≡ lexis_of TokenKind.Word bytes.now) }
+fn word_lexis(alloc: Global, version: u32, bytes: &[u8]) -> Result<Lexis, AllocError>
+    ensures { IfOk result (λ found. found ≡ lexis_of version TokenKind.Word bytes.now) }
 {
-    match reserved(bytes) {
+    match reserved(version, bytes) {
         Some(fixed) => Ok(Lexis::Fixed(fixed)),
         None => Ok(Lexis::Name(Items::from_slice(alloc, bytes)?)),
     }
 }
 
-/// What a token of these bytes says to the grammar.
-fn lexis_of(alloc: Global, kind: TokenKind, bytes: &[u8]) -> Result<Lexis, AllocError>
-    ensures { IfOk result (λ found. found ≡ lexis_of kind bytes.now) }
+/// A number, apart from the two that name a version.
+fn digits_lexis(bytes: &[u8], number: u64) -> Lexis
+    ensures { result ≡ digits_lexis bytes.now number }
+{
+    if is_text(bytes, b"1") {
+        Lexis::One
+    } else if is_text(bytes, b"2") {
+        Lexis::Two
+    } else {
+        Lexis::Number(number)
+    }
+}
+
+/// What a token of these bytes says to the grammar in a text of the version.
+fn lexis_of(alloc: Global, version: u32, kind: TokenKind, bytes: &[u8]) -> Result<Lexis, AllocError>
+    ensures { IfOk result (λ found. found ≡ lexis_of version kind bytes.now) }
 {
     match kind {
-        TokenKind::Word => word_lexis(alloc, bytes),
+        TokenKind::Word => word_lexis(alloc, version, bytes),
         TokenKind::Symbol => Ok(Lexis::Fixed(symbol(bytes))),
-        TokenKind::Number(number) => {
-            if is_text(bytes, b"1") {
-                Ok(Lexis::One)
-            } else {
-                Ok(Lexis::Number(number))
-            }
-        }
+        TokenKind::Number(number) => Ok(digits_lexis(bytes, number)),
     }
 }
 
@@ -193,15 +203,33 @@ fn text_of<'a>(bytes: &'a [u8], token: &Token) -> &'a [u8]
     &bytes[token.at..token.end]
 }
 
-/// The tokens of a text as the grammar sees them.
-fn lexemes(alloc: Global, bytes: &[u8], tokens: &[Token]) -> Result<Items<Lexeme>, AllocError>
+/// The version of a text: 2 where its second token is `2`, and else 1.
+fn version_of(bytes: &[u8], tokens: &[Token]) -> u32
     requires { InOrder 0 (length bytes.now) tokens.now }
-    ensures { IfOk result (λ found. found ≡ lexemes_of bytes.now tokens.now) }
+    ensures { result ≡ version_of bytes.now tokens.now }
+{
+    if let [_first, second, ..] = tokens
+        && is_text(text_of(bytes, second), b"2")
+    {
+        return 2;
+    }
+    1
+}
+
+/// The tokens of a text of the version as the grammar sees them.
+fn lexemes(
+    alloc: Global,
+    version: u32,
+    bytes: &[u8],
+    tokens: &[Token],
+) -> Result<Items<Lexeme>, AllocError>
+    requires { InOrder 0 (length bytes.now) tokens.now }
+    ensures { IfOk result (λ found. found ≡ lexemes_in version bytes.now tokens.now) }
 {
     let mut found: Items<Lexeme> = Items::new(alloc);
     let mut rest = tokens;
     'tokens: while let [token, more @ ..] = rest {
-        let lexis = lexis_of(alloc, token.kind, text_of(bytes, token))?;
+        let lexis = lexis_of(alloc, version, token.kind, text_of(bytes, token))?;
         found.push(Lexeme {
             lexis,
             line: token.line,
@@ -240,7 +268,9 @@ pub fn read_module(alloc: Global, bytes: &[u8]) -> Result<Tree, SyntaxFault>
         Ok(found) => found,
         Err(fault) => return Err(text_fault(fault)),
     };
-    let Ok(all) = lexemes(alloc, bytes, found.as_slice()) else {
+    let scanned = found.as_slice();
+    let version = version_of(bytes, scanned);
+    let Ok(all) = lexemes(alloc, version, bytes, scanned) else {
         return Err(SyntaxFault::Memory);
     };
     read_lexemes(alloc, all.as_slice())

@@ -1,3 +1,4 @@
+//! How right sides and conditions are read.
 ghost use Rattle.std.specs.Prelude.{◌≡◌};
 ghost use Rattle.dl_grammar.specs.Grammar.{Gives};
 ghost use Rattle.dl_grammar.specs.Readers as read;

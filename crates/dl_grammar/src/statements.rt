@@ -1,3 +1,4 @@
+//! How statements are read.
 ghost use Rattle.std.specs.Prelude.{◌≡◌};
 ghost use Rattle.dl_grammar.specs.Grammar.{Gives};
 ghost use Rattle.dl_grammar.specs.Readers as read;
@@ -65,6 +66,19 @@ impl Cursor<'_> {
         })
     }
 
+    #[tactic(auto, unfolding(crate::specs::Readers::emitting))]
+    fn emitting(&mut self, alloc: Global, room: u32) -> Result<TreeStmt, Fault>
+        ensures { Gives (read.emitting room self.old.rest.now) result self.new.rest.now }
+    {
+        let line = self.word(Fixed::Emit)?;
+        let e = self.expression(alloc, room)?;
+        let _end = self.word(Fixed::Semicolon)?;
+        Ok(TreeStmt {
+            line,
+            what: What::Emit { e },
+        })
+    }
+
     /// A statement, in which so many more levels may open.
     #[cycle(statement)]
     #[tactic(auto, using(crate::proofs::Steps::statement_is), unfolding(crate::specs::Readers::statement_over))]
@@ -77,6 +91,8 @@ impl Cursor<'_> {
             self.repetition(alloc, room)
         } else if self.at(Fixed::Return) {
             self.returning(alloc, room)
+        } else if self.at(Fixed::Emit) {
+            self.emitting(alloc, room)
         } else {
             self.setting(alloc, room)
         }

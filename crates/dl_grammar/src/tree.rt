@@ -1,3 +1,4 @@
+//! The trees of module texts.
 use dl_ir::{Op, Rel, Text};
 use sqlite_items::{Boxed, Items};
 
@@ -5,7 +6,7 @@ use sqlite_items::{Boxed, Items};
 /// name, counted from 1.
 #[derive(Debug, Drop)]
 pub struct Tree {
-    /// The version of the language.
+    /// The version of the language: 1 or 2.
     pub version: u32,
     pub kinds: Items<TreeKind>,
     pub ops: Items<TreeOp>,
@@ -87,6 +88,10 @@ pub enum What {
     },
     /// `return e;`
     Return {
+        e: TreeExpr,
+    },
+    /// `emit e;`, in version 2 alone.
+    Emit {
         e: TreeExpr,
     },
 }

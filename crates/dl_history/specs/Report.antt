@@ -1,4 +1,5 @@
-use Rattle.std.specs.Prelude.{◌+◌, ◌≤◌, All, ◌==◌, ◌&&◌, ◌++◌, ℕ, ℤ, pos, negsuc, Bool, true, false, Option, Some, None, List, [], length, slice_get, sum_by, codes, decimal}
+-- The text of a report.
+use Rattle.std.specs.Prelude.{◌+◌, ◌<◌, ◌≤◌, ◌^◌, All, ◌==◌, ◌&&◌, ◌++◌, ℕ, ℤ, pos, negsuc, Bool, true, false, Option, Some, None, List, [], ◌∷◌, length, slice_get, sum_by, codes, decimal}
 use Rattle.std.specs.Fmt.{signed_decimal}
 use Rattle.std.specs.Option.{option_map, option_map_or}
 use Rattle.std.specs.List.{find, flat_map, zip}
@@ -39,6 +40,7 @@ end_text ends.Overflow = codes "overflow"
 end_text ends.DivZero = codes "divzero"
 end_text ends.Fuel = codes "fuel"
 end_text ends.Quota = codes "quota"
+end_text ends.Emits = codes "emits"
 end_text (ends.Sealed name) = codes "sealed " ++ name_text name
 
 -- the breach behind an end, where there is one
@@ -46,9 +48,18 @@ abbrev pub breach_text : Option Name → List ℕ
 breach_text None = []
 breach_text (Some name) = codes " breach " ++ name_text name
 
+-- a number behind a space
+abbrev pub argument_text : ℤ → List ℕ
+argument_text argument = codes " " ++ signed_decimal argument
+
+-- the numbers emitted, each behind a space, where there are any
+abbrev pub emitted_text : List ℤ → List ℕ
+emitted_text [] = []
+emitted_text (first ∷ rest) = codes " emit" ++ flat_map argument_text (first ∷ rest)
+
 -- an answer
 abbrev pub answer_text : Answer → List ℕ
-answer_text answer = end_text answer.end ++ breach_text answer.breach
+answer_text answer = end_text answer.end ++ breach_text answer.breach ++ emitted_text answer.emitted
 
 -- what a refused operation needed and what was free
 abbrev pub shortage_text : Refusal → List ℕ
@@ -94,10 +105,6 @@ head_line word count = word ++ decimal count ++ codes "\n"
 -- the number of operations in all files, and a line for each
 abbrev pub answers_part : List (List Call) → List Entry → List Refusal → List ℕ
 answers_part files history refusals = head_line (codes "answers ") (sum_by length files) ++ each_from (answer_lines history refusals) 1 files
-
--- a number behind a space
-abbrev pub argument_text : ℤ → List ℕ
-argument_text argument = codes " " ++ signed_decimal argument
 
 -- the name of the operation with this number
 abbrev pub op_text : Module → ℕ → List ℕ
@@ -168,9 +175,13 @@ heap_head objects hidden = codes "heap " ++ decimal objects ++ codes " kept " ++
 abbrev pub heap_part : Module → Objects → List ℕ
 heap_part source heap = heap_head (length (finite.entries heap)) (hidden_count heap) ++ codes "\n" ++ flat_map (object_line source) (finite.entries heap)
 
+-- the first line, which names the version of the module's language
+abbrev pub version_line : Module → List ℕ
+version_line source = head_line (codes "domlock report ") source.version
+
 -- what the report says of the operations: its first line, the answers and the history
 abbrev pub operations_part : Module → List (List Call) → List Entry → List Refusal → List ℕ
-operations_part source files history refusals = codes "domlock report 1\n" ++ answers_part files history refusals ++ history_part source files history
+operations_part source files history refusals = version_line source ++ answers_part files history refusals ++ history_part source files history
 
 -- what the report says of the pool and of the heap, and its last line
 abbrev pub state_part : Module → List Move → Objects → List ℕ
@@ -180,7 +191,7 @@ state_part source moves heap = pool_part moves ++ heap_part source heap ++ codes
 abbrev pub report : Module → List (List Call) → List Entry → List Refusal → Objects → List ℕ
 report source files history refusals heap = operations_part source files history refusals ++ state_part source (in_rising_versions (moves_of source files history)) heap
 
--- there are at most 64 files, of at most 65,536 operations each
+-- the callers are counted by 32 bits, and each file has at most 65,536 operations
 pub record AreFew (files : List (List Call)) : Type 0 where
-  pub files_few : length files ≤ 64
+  pub files_few : length files < 2 ^ 32
   pub calls_few : All (λ (calls : List Call). length calls ≤ 65536) files

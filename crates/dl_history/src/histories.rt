@@ -1,3 +1,5 @@
+//! The history of a run.
+
 ghost use Rattle.std.specs.Prelude.{◌≡◌, ◌≤◌, [], length};
 ghost use Rattle.std.specs.List.{slice_range};
 ghost use Rattle.dl_history.specs.Histories.{Seen, ArePlacesOf, caller_at, index_at};

@@ -2,7 +2,7 @@
 //! `docs/FORMATS.md` has the form of the report.
 #![tactic(auto)]
 
-mod heaps;
+mod heap_lines;
 mod histories;
 mod merging;
 mod operations;

@@ -1,3 +1,5 @@
+//! The merging of what callers did into one history.
+
 ghost use Rattle.std.specs.Prelude.{◌≡◌, ◌+◌, ◌*◌, ◌≤◌, ◌<◌, ◌^◌, ◌++◌, [], IfOk, length, slice_get, vec_capacity, vec_len};
 ghost use Rattle.std.specs.Option.{option_map_or};
 ghost use Rattle.std.specs.List.{range_with_len};
@@ -101,7 +103,7 @@ fn gather_moves(source: &Module, files: &[Calls], entries: &[Entry], moves: &mut
     ensures { moves.new.items ≡ moves.old.items ++ moves_of source.now files.now entries.now }
 {
     'entries: for entry in entries {
-        push_moves(moves, *entry, allocs_of(source, files, *entry));
+        push_moves(moves, entry, allocs_of(source, files, entry));
     }
 }
 
@@ -116,8 +118,8 @@ fn allocs_of_op(source: &Module, op: u32) -> u32
 }
 
 // The number of objects that the operation of an entry may make.
-fn allocs_of(source: &Module, files: &[Calls], entry: Entry) -> u32
-    ensures { result ≡ allocs_at source.now files.now entry.caller entry.index }
+fn allocs_of(source: &Module, files: &[Calls], entry: &Entry) -> u32
+    ensures { result ≡ allocs_at source.now files.now entry.now.caller entry.now.index }
 {
     match call_of(files, entry.caller, entry.index) {
         Some(call) => allocs_of_op(source, call.op),
@@ -125,9 +127,9 @@ fn allocs_of(source: &Module, files: &[Calls], entry: Entry) -> u32
     }
 }
 
-fn push_reservation(moves: &mut Vec<Move>, entry: Entry, allocs: u32)
+fn push_reservation(moves: &mut Vec<Move>, entry: &Entry, allocs: u32)
     requires { vec_len moves.old + 1 ≤ vec_capacity moves.old }
-    ensures pushed { moves.new.items ≡ moves.old.items ++ reservation_of entry allocs }
+    ensures pushed { moves.new.items ≡ moves.old.items ++ reservation_of entry.now allocs }
     ensures len { vec_len moves.new ≤ vec_len moves.old + 1 }
     ensures capacity { vec_capacity moves.new ≡ vec_capacity moves.old }
 {
@@ -140,9 +142,9 @@ fn push_reservation(moves: &mut Vec<Move>, entry: Entry, allocs: u32)
     }
 }
 
-fn push_return(moves: &mut Vec<Move>, entry: Entry)
+fn push_return(moves: &mut Vec<Move>, entry: &Entry)
     requires { vec_len moves.old + 1 ≤ vec_capacity moves.old }
-    ensures pushed { moves.new.items ≡ moves.old.items ++ return_of entry }
+    ensures pushed { moves.new.items ≡ moves.old.items ++ return_of entry.now }
     ensures len { vec_len moves.new ≤ vec_len moves.old + 1 }
     ensures capacity { vec_capacity moves.new ≡ vec_capacity moves.old }
 {
@@ -156,9 +158,9 @@ fn push_return(moves: &mut Vec<Move>, entry: Entry)
 }
 
 // Pushes the moves of an entry whose operation may make so many objects.
-fn push_moves(moves: &mut Vec<Move>, entry: Entry, allocs: u32)
+fn push_moves(moves: &mut Vec<Move>, entry: &Entry, allocs: u32)
     requires { vec_len moves.old + 2 ≤ vec_capacity moves.old }
-    ensures pushed { moves.new.items ≡ moves.old.items ++ (reservation_of entry allocs ++ return_of entry) }
+    ensures pushed { moves.new.items ≡ moves.old.items ++ (reservation_of entry.now allocs ++ return_of entry.now) }
     ensures len { vec_len moves.new ≤ vec_len moves.old + 2 }
     ensures capacity { vec_capacity moves.new ≡ vec_capacity moves.old }
 {

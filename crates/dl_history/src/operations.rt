@@ -1,3 +1,5 @@
+//! The parts of a report that tell of the operations: the answers and the history.
+
 ghost use Rattle.std.specs.Prelude.{◌≡◌, ◌≤◌, ◌<◌, ◌+◌, ℕ, [], ◌∷◌, false, length, sum_by, codes, slice_get};
 ghost use Rattle.std.specs.Option.{option_copied, option_map_or};
 ghost use Rattle.std.specs.List.{flat_map};
@@ -9,7 +11,7 @@ ghost use Rattle.dl_text.specs.Lists.{each_from};
 ghost use Rattle.dl_history.specs.Report.{told_text, line_text, answer_lines, answers_part, op_text, call_text, place_text, history_line, history_part, argument_text, head_line, AreFew};
 
 use crate::histories::History;
-use crate::pieces::{put_answer, put_argument, put_dotted, put_head, put_refusal, put_text};
+use crate::pieces::{put_answer, put_arguments, put_dotted, put_head, put_refusal, put_text};
 use dl_ir::{Answer, Call, Calls, Entry, Module, Refusal};
 use dl_text::{Failed, Out, Sink};
 use sqlite_items::{Items, at};
@@ -133,16 +135,6 @@ fn put_op<K: Sink>(out: &mut Out, sink: &mut K, source: &Module, op: u32) -> Res
     }
 }
 
-fn put_arguments<K: Sink>(out: &mut Out, sink: &mut K, arguments: &[i64]) -> Result<(), Failed>
-    requires { out.old.failed ≡ false }
-    ensures { Puts (K.taken sink.old) out.old (flat_map argument_text arguments.now) result (K.taken sink.new) out.new }
-{
-    'arguments: for argument in arguments {
-        put_argument(out, sink, argument)?;
-    }
-    Ok(())
-}
-
 fn put_call_arguments<K: Sink>(out: &mut Out, sink: &mut K, call: &Call) -> Result<(), Failed>
     requires { out.old.failed ≡ false }
     ensures { Puts (K.taken sink.old) out.old (flat_map argument_text call.now.args) result (K.taken sink.new) out.new }
@@ -181,10 +173,10 @@ fn put_call_of<K: Sink>(
     sink: &mut K,
     source: &Module,
     files: &[Calls],
-    entry: Entry,
+    entry: &Entry,
 ) -> Result<(), Failed>
     requires { out.old.failed ≡ false }
-    ensures { Puts (K.taken sink.old) out.old (option_map_or (call_text source.now) (call_at files.now entry.caller entry.index) []) result (K.taken sink.new) out.new }
+    ensures { Puts (K.taken sink.old) out.old (option_map_or (call_text source.now) (call_at files.now entry.now.caller entry.now.index) []) result (K.taken sink.new) out.new }
 {
     match call_of(files, entry.caller, entry.index) {
         Some(call) => put_call(out, sink, source, call),
@@ -193,9 +185,9 @@ fn put_call_of<K: Sink>(
 }
 
 // Puts the place of an entry, as `TICKET CALLER.INDEX`.
-fn put_place<K: Sink>(out: &mut Out, sink: &mut K, entry: Entry) -> Result<(), Failed>
+fn put_place<K: Sink>(out: &mut Out, sink: &mut K, entry: &Entry) -> Result<(), Failed>
     requires { out.old.failed ≡ false }
-    ensures { Puts (K.taken sink.old) out.old (place_text entry) result (K.taken sink.new) out.new }
+    ensures { Puts (K.taken sink.old) out.old (place_text entry.now) result (K.taken sink.new) out.new }
 {
     out.put_number(sink, entry.ticket)?;
     out.put(sink, b" ")?;
@@ -207,10 +199,10 @@ fn put_history_line<K: Sink>(
     sink: &mut K,
     source: &Module,
     files: &[Calls],
-    entry: Entry,
+    entry: &Entry,
 ) -> Result<(), Failed>
     requires { out.old.failed ≡ false }
-    ensures { Puts (K.taken sink.old) out.old (history_line source.now files.now entry) result (K.taken sink.new) out.new }
+    ensures { Puts (K.taken sink.old) out.old (history_line source.now files.now entry.now) result (K.taken sink.new) out.new }
 {
     put_place(out, sink, entry)?;
     out.put(sink, b" ")?;
@@ -228,8 +220,8 @@ fn put_history_lines<K: Sink>(
     requires { out.old.failed ≡ false }
     ensures { Puts (K.taken sink.old) out.old (flat_map (history_line source.now files.now) entries.now) result (K.taken sink.new) out.new }
 {
-    'entries: for entry in entries {
-        put_history_line(out, sink, source, files, *entry)?;
+    'entries: for i in 0..entries.len() {
+        put_history_line(out, sink, source, files, &entries[i])?;
     }
     Ok(())
 }
@@ -266,14 +258,6 @@ fn count_calls(files: &[Calls]) -> usize
     count
 }
 
-fn put_answers_head<K: Sink>(out: &mut Out, sink: &mut K, files: &[Calls]) -> Result<(), Failed>
-    requires works { out.old.failed ≡ false }
-    requires few { AreFew files.now }
-    ensures { Puts (K.taken sink.old) out.old (head_line (codes "answers ") (sum_by length files.now)) result (K.taken sink.new) out.new }
-{
-    put_head(out, sink, b"answers ", count_calls(files))
-}
-
 /// Puts the number of operations, and a line for each.
 pub fn put_answers<K: Sink>(
     out: &mut Out,
@@ -288,7 +272,7 @@ pub fn put_answers<K: Sink>(
     requires covers { Covers files.now history.now.entries (joined refusals.now) }
     ensures { Puts (K.taken sink.old) out.old (answers_part files.now history.now.entries (joined refusals.now)) result (K.taken sink.new) out.new }
 {
-    put_answers_head(out, sink, files)?;
+    put_head(out, sink, b"answers ", count_calls(files))?;
     put_all_answer_lines(out, sink, files, history, refusals)
 }
 

@@ -1,9 +1,12 @@
+//! The pieces of which the lines of a report are made.
+
 ghost use Rattle.std.specs.Prelude.{◌≡◌, ◌++◌, codes, decimal, false};
 ghost use Rattle.std.specs.Fmt.{signed_decimal};
+ghost use Rattle.std.specs.List.{flat_map};
 ghost use Rattle.dl_text.specs.Writing.{Puts};
-ghost use Rattle.dl_history.specs.Report.{dotted, name_text, end_text, breach_text, answer_text, shortage_text, refusal_text, head_line, argument_text, value_text};
+ghost use Rattle.dl_history.specs.Report.{dotted, name_text, end_text, breach_text, emitted_text, answer_text, shortage_text, refusal_text, head_line, argument_text, value_text};
 
-use dl_ir::{Answer, End, Name, Refusal, Text, Value};
+use dl_ir::{Answer, Emits, End, Name, Refusal, Text, Value};
 use dl_text::{Failed, Out, Sink};
 
 /// Puts two numbers with a dot between them.
@@ -81,13 +84,25 @@ pub fn put_value<K: Sink>(out: &mut Out, sink: &mut K, value: Value) -> Result<(
     }
 }
 
-/// Puts an answer: how the operation ended, and its breach, where there is one.
+/// Puts numbers, each behind a space.
+pub fn put_arguments<K: Sink>(out: &mut Out, sink: &mut K, arguments: &[i64]) -> Result<(), Failed>
+    requires { out.old.failed ≡ false }
+    ensures { Puts (K.taken sink.old) out.old (flat_map argument_text arguments.now) result (K.taken sink.new) out.new }
+{
+    'arguments: for i in 0..arguments.len() {
+        put_argument(out, sink, &arguments[i])?;
+    }
+    Ok(())
+}
+
+/// Puts an answer: how the operation ended, its breach, where there is one, and the numbers that it emitted.
 pub fn put_answer<K: Sink>(out: &mut Out, sink: &mut K, answer: Answer) -> Result<(), Failed>
     requires { out.old.failed ≡ false }
     ensures { Puts (K.taken sink.old) out.old (answer_text answer) result (K.taken sink.new) out.new }
 {
     put_end(out, sink, answer.end)?;
-    put_breach(out, sink, answer.breach)
+    put_breach(out, sink, answer.breach)?;
+    put_emitted(out, sink, answer.emitted)
 }
 
 fn put_end<K: Sink>(out: &mut Out, sink: &mut K, end: End) -> Result<(), Failed>
@@ -101,6 +116,7 @@ fn put_end<K: Sink>(out: &mut Out, sink: &mut K, end: End) -> Result<(), Failed>
         End::DivZero => out.put(sink, b"divzero"),
         End::Fuel => out.put(sink, b"fuel"),
         End::Quota => out.put(sink, b"quota"),
+        End::Emits => out.put(sink, b"emits"),
         End::Sealed(name) => put_named(out, sink, b"sealed ", name),
     }
 }
@@ -130,6 +146,24 @@ fn put_breach<K: Sink>(out: &mut Out, sink: &mut K, breach: Option<Name>) -> Res
         None => out.put(sink, b""),
         Some(name) => put_named(out, sink, b" breach ", name),
     }
+}
+
+fn put_emitted<K: Sink>(out: &mut Out, sink: &mut K, emitted: Emits) -> Result<(), Failed>
+    requires { out.old.failed ≡ false }
+    ensures { Puts (K.taken sink.old) out.old (emitted_text emitted) result (K.taken sink.new) out.new }
+{
+    if emitted.is_empty() {
+        return out.put(sink, b"");
+    }
+    put_some_emitted(out, sink, emitted.as_slice())
+}
+
+fn put_some_emitted<K: Sink>(out: &mut Out, sink: &mut K, numbers: &[i64]) -> Result<(), Failed>
+    requires { out.old.failed ≡ false }
+    ensures { Puts (K.taken sink.old) out.old (codes " emit" ++ flat_map argument_text numbers.now) result (K.taken sink.new) out.new }
+{
+    out.put(sink, b" emit")?;
+    put_arguments(out, sink, numbers)
 }
 
 /// Puts what stands in place of an answer where an operation was refused.

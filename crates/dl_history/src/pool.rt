@@ -1,3 +1,5 @@
+//! The part of a report that tells of the pool.
+
 ghost use Rattle.std.specs.Prelude.{◌≡◌, ◌++◌, decimal, false, length};
 ghost use Rattle.std.specs.List.{flat_map};
 ghost use Rattle.dl_text.specs.Writing.{Puts};

@@ -1,7 +1,9 @@
+//! The merging of three callers.
+
 ghost use Rattle.std.specs.Prelude.{◌≡◌, ◌∷◌, [], None, pos, IfOk};
 
 use crate::{History, MergeRoom, merge};
-use dl_ir::{Answer, Call, Calls, Closed, End, Entry, Heap, Module, Move, OpDecl};
+use dl_ir::{Answer, Call, Calls, Closed, Emits, End, Entry, Heap, Module, Move, OpDecl};
 use sqlite_items::Items;
 use std::alloc::{AllocError, Global};
 use std::test::Fail;
@@ -48,7 +50,7 @@ fn calls(alloc: Global, first: u32, second: u32) -> Result<Calls, AllocError>
 
 // What an operation of this caller and index came to, and the places that it returned.
 fn entry(ticket: u64, place: (u32, u32), reserved_at: u64, returned: u32, returned_at: u64) -> Entry
-    ensures { result ≡ record { ticket = ticket; caller = place.0; index = place.1; answer = record { end = End.Ok (pos 0); breach = None }; reserved_at = reserved_at; returned = returned; returned_at = returned_at } }
+    ensures { result ≡ record { ticket = ticket; caller = place.0; index = place.1; answer = record { end = End.Ok (pos 0); breach = None; emitted = [] }; reserved_at = reserved_at; returned = returned; returned_at = returned_at } }
 {
     let (caller, index) = place;
     Entry {
@@ -58,6 +60,7 @@ fn entry(ticket: u64, place: (u32, u32), reserved_at: u64, returned: u32, return
         answer: Answer {
             end: End::Ok(0),
             breach: None,
+            emitted: Emits::new(),
         },
         reserved_at,
         returned,

@@ -5,7 +5,7 @@ use Rattle.std.proofs.lemmas.List.{length-map}
 use Rattle.std.proofs.lemmas.Option.{slice_get-map, slice_get_within}
 use Rattle.dl_ir.specs.declared.modules.OpDecl.{OpDecl}
 use Rattle.dl_instr.specs.declared.steps.Step.{Step}
-use Rattle.dl_instr.specs.declared.steps.Step.TheVariants.{Read, Want, Set, Drop, Make, Eval, Write, Test, Jump, Give}
+use Rattle.dl_instr.specs.declared.steps.Step.TheVariants.{Read, Want, Set, Drop, Make, Eval, Write, Emit, Test, Jump, Give}
 use Rattle.dl_instr.specs.Code.{op_code}
 use Rattle.dl_instr.specs.Drops.{IsWithDrops, front, moved}
 use Rattle.dl_instr.specs.Jumps.{JumpsLand, jump_of}
@@ -29,6 +29,7 @@ unmoved (Drop p) = refl
 unmoved (Make kind) = refl
 unmoved (Eval value) = refl
 unmoved (Write q f content) = refl
+unmoved Emit = refl
 unmoved (Test c is_turn place) = ap (Test c is_turn) (same_front place)
 unmoved (Jump place) = ap Jump (same_front place)
 unmoved (Give value) = refl

@@ -1,3 +1,4 @@
+-- The lemmas of this crate.
 mod Checked
 mod CodesOf
 mod Late

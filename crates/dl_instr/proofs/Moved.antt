@@ -1,7 +1,7 @@
 -- Steps and their jumps.
 use Rattle.std.proofs.Common.{◌≡◌, ℕ, refl, sym, ap, ◌∙◌, Some, None}
 use Rattle.dl_instr.specs.declared.steps.Step.{Step}
-use Rattle.dl_instr.specs.declared.steps.Step.TheVariants.{Read, Want, Set, Drop, Make, Eval, Write, Test, Jump, Give}
+use Rattle.dl_instr.specs.declared.steps.Step.TheVariants.{Read, Want, Set, Drop, Make, Eval, Write, Emit, Test, Jump, Give}
 use Rattle.dl_instr.specs.Drops.{moved}
 use Rattle.dl_instr.specs.Jumps.{jump_of}
 use Rattle.dl_instr.specs.Matching.{opened}
@@ -15,6 +15,7 @@ jump_on f (Drop p) t is = cc
 jump_on f (Make kind) t is = cc
 jump_on f (Eval value) t is = cc
 jump_on f (Write q d content) t is = cc
+jump_on f Emit t is = cc
 jump_on f (Test c is_turn place) t is = let same : place ≡ t = cc in ap (λ n. Some (f n)) same
 jump_on f (Jump place) t is = let same : place ≡ t = cc in ap (λ n. Some (f n)) same
 jump_on f (Give value) t is = cc
@@ -28,6 +29,7 @@ jump_back f (Drop p) z is = absurd cc
 jump_back f (Make kind) z is = absurd cc
 jump_back f (Eval value) z is = absurd cc
 jump_back f (Write q d content) z is = absurd cc
+jump_back f Emit z is = absurd cc
 jump_back f (Test c is_turn place) z is = (place, refl, cc)
 jump_back f (Jump place) z is = (place, refl, cc)
 jump_back f (Give value) z is = absurd cc
@@ -41,6 +43,7 @@ moved_twice f g (Drop p) = refl
 moved_twice f g (Make kind) = refl
 moved_twice f g (Eval value) = refl
 moved_twice f g (Write q d content) = refl
+moved_twice f g Emit = refl
 moved_twice f g (Test c is_turn place) = refl
 moved_twice f g (Jump place) = refl
 moved_twice f g (Give value) = refl
@@ -54,6 +57,7 @@ no_jump f (Drop p) is = refl
 no_jump f (Make kind) is = refl
 no_jump f (Eval value) is = refl
 no_jump f (Write q d content) is = refl
+no_jump f Emit is = refl
 no_jump f (Test c is_turn place) is = cc
 no_jump f (Jump place) is = cc
 no_jump f (Give value) is = refl
@@ -67,6 +71,7 @@ moved_to f (Drop p) t z is at = refl
 moved_to f (Make kind) t z is at = refl
 moved_to f (Eval value) t z is at = refl
 moved_to f (Write q d content) t z is at = refl
+moved_to f Emit t z is at = refl
 moved_to f (Test c is_turn place) t z is at = let same : place ≡ t = cc in ap (Test c is_turn) (sym at ∙ sym (ap f same))
 moved_to f (Jump place) t z is at = let same : place ≡ t = cc in ap Jump (sym at ∙ sym (ap f same))
 moved_to f (Give value) t z is at = refl
@@ -80,6 +85,7 @@ stays (Drop p) z is = refl
 stays (Make kind) z is = refl
 stays (Eval value) z is = refl
 stays (Write q d content) z is = refl
+stays Emit z is = refl
 stays (Test c is_turn place) z is = let same : place ≡ z = cc in ap (Test c is_turn) (sym same)
 stays (Jump place) z is = let same : place ≡ z = cc in ap Jump (sym same)
 stays (Give value) z is = refl
@@ -106,6 +112,7 @@ drop_is (Drop q) p is = is
 drop_is (Make kind) p is = cc
 drop_is (Eval value) p is = cc
 drop_is (Write q d content) p is = cc
+drop_is Emit p is = cc
 drop_is (Test c is_turn place) p is = cc
 drop_is (Jump place) p is = cc
 drop_is (Give value) p is = cc

@@ -111,6 +111,7 @@ module _ {E : Type 0} (stmt : E → Stmt) (holds : (e : E) → Lands (stmt_code 
       if_else_lands c (in_row (map stmt_code (map stmt block))) (in_row (map stmt_code (map stmt (e ∷ es)))) (rows block) (rows (e ∷ es)) first
   layer (Stmt-F.While c body) first = while_lands c (in_row (map stmt_code (map stmt body))) (rows body) first
   layer (Stmt-F.Return e) first = stays_in _ _ _ refl (none_within _)
+  layer (Stmt-F.Emit e) first = stays_in _ _ _ refl (stays_in _ _ _ refl (none_within _))
 
   on_layer : (y : Stmt-F E) → Lands (stmt_code (roll-Stmt (map-Stmt E Stmt stmt y)))
   on_layer y = subst Lands (sym (fold-roll-Stmt Placed steps_of (map-Stmt E Stmt stmt y))) (layer y)

@@ -8,7 +8,7 @@ use Rattle.dl_ir.specs.declared.statements.Stmt.{Stmt, Stmt-F}
 use Rattle.dl_ir.specs.declared.statements.Stmt.TheFolds.{fold-Stmt}
 use Rattle.dl_instr.specs.declared.code.Code.{Code}
 use Rattle.dl_instr.specs.declared.steps.Step.{Step}
-use Rattle.dl_instr.specs.declared.steps.Step.TheVariants.{Read, Want, Set, Drop, Make, Eval, Write, Test, Jump, Give}
+use Rattle.dl_instr.specs.declared.steps.Step.TheVariants.{Read, Want, Set, Drop, Make, Eval, Write, Emit, Test, Jump, Give}
 use Rattle.dl_instr.specs.declared.steps.Origin.TheVariants as origins
 use Rattle.dl_instr.specs.declared.steps.Content.TheVariants as contents
 
@@ -58,6 +58,7 @@ steps_of (Stmt-F.If c block []) first = if_code c (in_row block) first
 steps_of (Stmt-F.If c block (part ∷ rest)) first = if_else_code c (in_row block) (in_row (part ∷ rest)) first
 steps_of (Stmt-F.While c body) first = while_code c (in_row body) first
 steps_of (Stmt-F.Return e) first = Give e ∷ []
+steps_of (Stmt-F.Emit e) first = Eval e ∷ Emit ∷ []
 
 -- the steps of a statement
 abbrev pub stmt_code : Stmt → Placed

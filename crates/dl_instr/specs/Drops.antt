@@ -10,7 +10,7 @@ use Rattle.dl_ir.specs.declared.modules.Ty.{Ty}
 use Rattle.dl_ir.specs.declared.modules.Ty.TheVariants.{Int, Of}
 use Rattle.dl_instr.specs.declared.code.Code.{Code}
 use Rattle.dl_instr.specs.declared.steps.Step.{Step}
-use Rattle.dl_instr.specs.declared.steps.Step.TheVariants.{Read, Want, Set, Drop, Make, Eval, Write, Test, Jump, Give}
+use Rattle.dl_instr.specs.declared.steps.Step.TheVariants.{Read, Want, Set, Drop, Make, Eval, Write, Emit, Test, Jump, Give}
 use Rattle.dl_instr.specs.declared.steps.Origin.TheVariants as origins
 use Rattle.dl_instr.specs.declared.steps.Content.TheVariants as contents
 use Rattle.dl_instr.specs.Code.{op_code}
@@ -32,6 +32,7 @@ reads local (Eval value) = false
 reads local (Write q field contents.Number) = q == local
 reads local (Write q field (contents.Local p)) = (q == local) || (p == local)
 reads local (Write q field contents.Null) = q == local
+reads local Emit = false
 reads local (Test (Ints rel left right) is_turn place) = false
 reads local (Test (Refs same left right) is_turn place) = is_side local left || is_side local right
 reads local (Jump place) = false
@@ -66,11 +67,12 @@ abbrev pub is_reference : Option LocalDecl → Bool
 is_reference None = false
 is_reference (Some declared) = is_kind declared.ty
 
--- the step uses what the hand holds: a `want`, a `set` or a `write`
+-- the step uses what the hand holds: a `want`, a `set`, a `write` or an `emit`
 abbrev pub is_use : Step → Bool
 is_use Want = true
 is_use (Set p origins.Hand) = true
 is_use (Write q field content) = true
+is_use Emit = true
 is_use step = false
 
 -- at the place stands a step that may have been added: it drops a reference that on no path is read again before it is set, and stands directly before no use of the hand

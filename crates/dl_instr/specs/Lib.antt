@@ -1,3 +1,4 @@
+-- What contracts on codes speak of.
 pub mod Code
 pub mod Drops
 pub mod DropsLaws

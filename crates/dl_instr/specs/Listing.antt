@@ -22,7 +22,7 @@ use Rattle.dl_ir.specs.declared.modules.Ty.TheVariants.{Int, Of}
 use Rattle.dl_text.specs.Lists.{each_from}
 use Rattle.dl_instr.specs.declared.code.Code.{Code}
 use Rattle.dl_instr.specs.declared.steps.Step.{Step}
-use Rattle.dl_instr.specs.declared.steps.Step.TheVariants.{Read, Want, Set, Drop, Make, Eval, Write, Test, Jump, Give}
+use Rattle.dl_instr.specs.declared.steps.Step.TheVariants.{Read, Want, Set, Drop, Make, Eval, Write, Emit, Test, Jump, Give}
 use Rattle.dl_instr.specs.declared.steps.Content.{Content}
 use Rattle.dl_instr.specs.declared.steps.Content.TheVariants as contents
 use Rattle.dl_instr.specs.declared.steps.Origin.{Origin}
@@ -144,6 +144,7 @@ step_text source op (Drop p) = codes "drop " ++ local_text op p
 step_text source op (Make kind) = codes "make " ++ kind_text source kind
 step_text source op (Eval e) = codes "eval " ++ expr_text op e
 step_text source op (Write q f content) = codes "write " ++ place_text source op q f ++ content_text op content
+step_text source op Emit = codes "emit"
 step_text source op (Test c is_turn place) = test_word is_turn ++ cond_text op c ++ codes " else " ++ decimal place
 step_text source op (Jump place) = codes "jump " ++ decimal place
 step_text source op (Give e) = codes "give " ++ expr_text op e

@@ -4,7 +4,7 @@ use Rattle.dl_ir.specs.declared.expressions.Expr.TheVariants.{Num}
 use Rattle.dl_instr.specs.declared.plain.PlainStep.{PlainStep}
 use Rattle.dl_instr.specs.declared.plain.PlainStep.TheVariants as plain
 use Rattle.dl_instr.specs.declared.steps.Step.{Step}
-use Rattle.dl_instr.specs.declared.steps.Step.TheVariants.{Read, Want, Set, Drop, Make, Eval, Write, Test, Jump, Give}
+use Rattle.dl_instr.specs.declared.steps.Step.TheVariants.{Read, Want, Set, Drop, Make, Eval, Write, Emit, Test, Jump, Give}
 
 -- a plain step as a step of code
 abbrev pub shown : PlainStep → Step
@@ -15,6 +15,7 @@ shown (plain.Drop local) = Drop local
 shown (plain.Make kind) = Make kind
 shown (plain.Eval value) = Eval value.now
 shown (plain.Write local field content) = Write local field content
+shown plain.Emit = Emit
 shown (plain.Test cond is_turn place) = Test cond.now is_turn place
 shown (plain.Jump place) = Jump place
 shown (plain.Give value) = Give value.now

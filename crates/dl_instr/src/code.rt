@@ -1,3 +1,5 @@
+//! The type of a code: a module with the steps of each of its operations.
+
 ghost use Rattle.std.specs.Prelude.{◌≡◌, slice_get};
 ghost use Rattle.std.specs.Option.{option_copied};
 

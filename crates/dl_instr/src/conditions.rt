@@ -1,3 +1,5 @@
+//! How conditions are printed.
+
 ghost use Rattle.std.specs.Prelude.{◌≡◌, ◌++◌, false};
 ghost use Rattle.dl_text.specs.Writing.{Puts};
 ghost use Rattle.dl_instr.specs.Listing.{expr_text, rel_text, same_text, side_text, cond_text};

@@ -1,3 +1,5 @@
+//! Copies of modules and their parts, which a code keeps.
+
 ghost use Rattle.std.specs.Prelude.{◌≡◌, IfOk};
 
 use dl_ir::{Block, Cond, Expr, FieldDecl, KindDecl, LocalDecl, Module, OpDecl, Stmt, Text};
@@ -70,6 +72,9 @@ fn copy_stmt(alloc: Global, original: &Stmt) -> Result<Stmt, AllocError>
             body: copy_block(alloc, body)?,
         },
         Stmt::Return { e } => Stmt::Return {
+            e: copy_expr(alloc, e)?,
+        },
+        Stmt::Emit { e } => Stmt::Emit {
             e: copy_expr(alloc, e)?,
         },
         &Stmt::Load { x, p, f } => Stmt::Load { x, p, f },

@@ -1,3 +1,5 @@
+//! Tests of which codes with added drops are codes of a module.
+
 use crate::code::Code;
 use crate::steps::{Content, Origin, Step, Steps};
 use crate::test_modules::{bump, is_less, is_there, lists, sum};

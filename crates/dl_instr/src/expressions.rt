@@ -1,3 +1,5 @@
+//! How expressions are printed.
+
 ghost use Rattle.std.specs.Prelude.{◌≡◌, ◌≤◌, ◌++◌, [], codes, false, if◌then◌else◌};
 ghost use Rattle.dl_text.specs.Writing.{Puts};
 ghost use Rattle.dl_instr.specs.Listing.{op_level, op_text, operand_text, expr_part, expr_text};

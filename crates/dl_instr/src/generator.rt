@@ -1,3 +1,5 @@
+//! The plain code of a module, made statement by statement.
+
 ghost use Rattle.std.specs.Prelude.{◌≡◌, List, [], ◌∷◌, ◌++◌, ◌<◌, IfOk, OnOk, length, slice_set};
 ghost use Rattle.dl_instr.specs.Code.{stmt_code, block_code, op_code, code, if_code, tested, skipped};
 ghost use Rattle.dl_instr.specs.declared.steps.Step.{Step};
@@ -117,6 +119,7 @@ fn add_stmt(alloc: Global, steps: &mut Steps, s: &Stmt) -> Result<(), AllocError
             let place = steps.len();
             add_tested(alloc, steps, c, true, body, Step::Jump { place })
         }
+        Stmt::Emit { e } => push_eval(alloc, steps, e, Step::Emit),
         Stmt::Return { e } => {
             let value = copy_expr(alloc, e)?;
             steps.push(Step::Give { value })

@@ -1,3 +1,5 @@
+//! How a code is printed, step by step.
+
 ghost use Rattle.std.specs.Prelude.{◌≡◌, ◌++◌, ◌+◌, codes, decimal, false, if◌then◌else◌, [], slice_get};
 ghost use Rattle.std.specs.Option.{option_map_or};
 ghost use Rattle.dl_text.specs.Writing.{Puts};
@@ -205,6 +207,7 @@ fn put_step<K: Sink>(
             field,
             content,
         } => put_write(out, sink, source, op, *local, *field, *content),
+        Step::Emit => out.put(sink, b"emit"),
         Step::Test {
             cond,
             is_turn,

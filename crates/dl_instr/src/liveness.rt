@@ -1,3 +1,5 @@
+//! Whether a local is read again before it is set, on some path through the steps of an operation.
+
 ghost use Rattle.std.specs.Prelude.{◌≡◌, ◌<◌, ◌+◌, ◌++◌, ◌∷◌, [], ℕ, false, true, length, slice_get, MatchBool, MatchOption};
 ghost use Rattle.dl_instr.specs.Drops.{IsReadFrom, reads, sets, is_use, is_kind, is_reference, is_side};
 ghost use Rattle.dl_instr.specs.Paths.{places_of, is_among, IsNew, IsClosed, IsReadFromSome, IsReadFromNone, AllClosed, SomeNew, SomeReads, NoneReads};
@@ -48,6 +50,7 @@ fn reads(local: u32, step: &Step) -> bool
         Step::Drop { .. } => false,
         Step::Make { .. } => false,
         Step::Eval { .. } => false,
+        Step::Emit => false,
         Step::Jump { .. } => false,
         Step::Give { .. } => false,
     }
@@ -65,6 +68,7 @@ fn sets(local: u32, step: &Step) -> bool
         Step::Make { .. } => false,
         Step::Eval { .. } => false,
         Step::Write { .. } => false,
+        Step::Emit => false,
         Step::Test { .. } => false,
         Step::Jump { .. } => false,
         Step::Give { .. } => false,
@@ -82,6 +86,7 @@ pub(crate) fn is_use(step: &Step) -> bool
             Origin::Local(_) => false,
         },
         Step::Write { .. } => true,
+        Step::Emit => true,
         Step::Read { .. } => false,
         Step::Drop { .. } => false,
         Step::Make { .. } => false,

@@ -1,3 +1,5 @@
+//! Whether a code is one of a module: where its plain steps stand, and what stands between them.
+
 ghost use Rattle.std.specs.Prelude.{◌≡◌, ◌<◌, ◌≤◌, ◌+◌, ◌-◌, ◌^◌, ◌↔◌, ℕ, suc, false, true, not, if◌then◌else◌, IsTrue, length, slice_get, MatchOption, MatchBool};
 ghost use Rattle.dl_instr.specs.Code.{op_code};
 ghost use Rattle.dl_instr.specs.Drops.{IsAddedDrop, IsWithDrops, IsCodeOf, IsReadFrom};
@@ -53,6 +55,10 @@ fn same_step(plain: &PlainStep, step: &Step) -> bool
             } => local == p && field == f && content == q,
             _ => false,
         },
+        PlainStep::Emit => match step {
+            Step::Emit => true,
+            _ => false,
+        },
         PlainStep::Test { cond, is_turn, .. } => match step {
             Step::Test {
                 cond: c,
@@ -90,6 +96,7 @@ fn jump_of(step: &Step) -> Option<usize>
         Step::Make { .. } => None,
         Step::Eval { .. } => None,
         Step::Write { .. } => None,
+        Step::Emit => None,
         Step::Give { .. } => None,
     }
 }
@@ -108,6 +115,7 @@ fn plain_jump_of(plain: &PlainStep) -> Option<usize>
         PlainStep::Make { .. } => None,
         PlainStep::Eval { .. } => None,
         PlainStep::Write { .. } => None,
+        PlainStep::Emit => None,
         PlainStep::Give { .. } => None,
         PlainStep::GiveZero => None,
     }

@@ -1,3 +1,5 @@
+//! How names of locals, kinds and fields are found and printed.
+
 ghost use Rattle.std.specs.Prelude.{◌≡◌, false, slice_get, option_and_then};
 ghost use Rattle.dl_text.specs.Writing.{Puts};
 ghost use Rattle.std.specs.Option.{option_copied};

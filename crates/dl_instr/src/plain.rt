@@ -1,3 +1,5 @@
+//! The plain step at a place, found in the module without making its code.
+
 ghost use Rattle.std.specs.Prelude.{◌≡◌, ◌<◌, ◌≤◌, ◌+◌, ◌^◌, ◌∷◌, [], false, true, length, slice_get, MatchOption};
 ghost use Rattle.std.specs.Option.{option_map};
 ghost use Rattle.dl_instr.specs.Code.{stmt_code, block_code, op_code};
@@ -34,6 +36,7 @@ pub(crate) enum PlainStep<'a> {
         field: u32,
         content: Content,
     },
+    Emit,
     Test {
         cond: &'a Cond,
         is_turn: bool,
@@ -73,6 +76,7 @@ fn stmt_end(s: &Stmt, first: usize) -> Option<usize>
         Stmt::Load { .. } => first.checked_add(2),
         Stmt::Store { .. } => first.checked_add(2),
         Stmt::New { .. } => first.checked_add(2),
+        Stmt::Emit { .. } => first.checked_add(2),
         Stmt::Follow { .. } => first.checked_add(3),
         Stmt::Link { .. } => first.checked_add(3),
         Stmt::Cut { .. } => first.checked_add(3),
@@ -215,6 +219,7 @@ fn stmt_step<'a>(s: &'a Stmt, first: usize, at: usize) -> Option<PlainStep<'a>>
         Stmt::New { p, kind } => of_two(at, PlainStep::Make { kind: *kind }, set_hand(*p)),
         Stmt::Link { q, f, p } => of_read(at, *q, *f, write(*q, *f, Content::Local(*p))),
         Stmt::Cut { q, f } => of_read(at, *q, *f, write(*q, *f, Content::Null)),
+        Stmt::Emit { e } => of_two(at, PlainStep::Eval { value: e }, PlainStep::Emit),
         Stmt::Return { e } => of_one(at, PlainStep::Give { value: e }),
         Stmt::If { c, yes, no } => {
             let end = inner_end(yes, first)?;

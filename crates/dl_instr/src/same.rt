@@ -1,3 +1,5 @@
+//! Whether two modules, or parts of them, are the same.
+
 ghost use Rattle.std.specs.Prelude.{◌≡◌, ◌↔◌, IsTrue};
 
 use dl_ir::{Block, Cond, Expr, FieldDecl, KindDecl, LocalDecl, Module, OpDecl, Stmt, Text};
@@ -111,6 +113,10 @@ fn same_stmt(a: &Stmt, b: &Stmt) -> bool
         },
         Stmt::Return { e } => match b {
             Stmt::Return { e: f } => same_expr(e, f),
+            _ => false,
+        },
+        Stmt::Emit { e } => match b {
+            Stmt::Emit { e: f } => same_expr(e, f),
             _ => false,
         },
     }

@@ -1,3 +1,5 @@
+//! The steps of instrumented code.
+
 use dl_ir::{Cond, Expr};
 use sqlite_items::Items;
 
@@ -56,6 +58,8 @@ pub enum Step {
         field: u32,
         content: Content,
     },
+    /// `emit`: the number that the hand holds is emitted; the operation ends where 16 numbers are emitted already.
+    Emit,
     /// `test C else L`, or `turn C else L`, which is a loop's test and takes a turn first: a false condition goes on at the place.
     Test {
         cond: Cond,

@@ -1,3 +1,5 @@
+//! Modules that the tests of this crate are about.
+
 use dl_ir::{
     Block, Cond, Expr, FieldDecl, KindDecl, LocalDecl, Module, Op, OpDecl, RefSide, Rel, Stmt, Ty,
 };

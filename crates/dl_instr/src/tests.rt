@@ -1,3 +1,5 @@
+//! Tests of the listing.
+
 use crate::test_modules::{bump, counter, is_less, is_there, lists, sum};
 use crate::{instrument, print_code};
 use dl_io::MemSink;

@@ -1,4 +1,4 @@
-use Rattle.std.proofs.Common.{◌≡◌, ◌≢◌, ℕ, ◌+◌, ◌<◌, Bool, true, false, List, [], ◌∷◌, ◌++◌, Option, Some, None, IsSome, IfSome, length, drop, get_or, refl, sym, ◌∙◌, ap, arith, cond, drop-cons, add-one, zero, suc}
+use Rattle.std.proofs.Common.{◌≡◌, ◌≢◌, ℕ, ◌+◌, ◌<◌, Bool, true, false, List, [], ◌∷◌, ◌++◌, Option, Some, None, IsSome, IfSome, length, drop, get_or, refl, sym, ◌∙◌, ap, arith, cond, drop-cons, add-one, zero, suc, subst}
 use Rattle.std.specs.Prelude.{map, slice_get, option_map, string_bytes, Contains, bytes_eq, is_some, ◌&&◌}
 use Rattle.std.specs.Bool.{Decides}
 use Rattle.std.proofs.lemmas.List.{map-append}
@@ -29,6 +29,13 @@ bytes_in-at files i file path within is here before =
     let found : bytes_in (drop i files) path ≡ Some file.bytes.items = bytes_in-drop files i file path within is ∙ (rw here refl) in
     let got : slice_get files i ≡ Some file = slice_get_read files (length files) i file refl within is in
     rw got (sym before ∙ found)
+
+-- and something is found
+pub bytes_in-there : (files : List MemFile) (i : ℕ) (file : MemFile) (path : List ℕ) → i < length files → file ≡ get_or files i file →
+    bytes_eq (string_bytes file.path) path ≡ true → bytes_in (drop i files) path ≡ bytes_in files path → IsSome (bytes_in files path)
+bytes_in-there files i file path within is here before =
+    let found : bytes_in (drop i files) path ≡ Some file.bytes.items = bytes_in-drop files i file path within is ∙ (rw here refl) in
+    subst IsSome (sym found ∙ before) refl
 
 false_unless : (b : Bool) {P : Type 0} → Decides b P → (P → ⊥) → b ≡ false
 false_unless true decides n = absurd (n (decides.0 refl))

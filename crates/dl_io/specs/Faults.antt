@@ -1,3 +1,4 @@
+-- When a call may answer a fault: where the count of faults rose in it.
 use Rattle.std.specs.Prelude.{ℕ, ◌+◌, ◌-◌, ◌^◌, ◌≤◌, min, Result, OnErr}
 
 -- a count rose: it is greater than before, or stands at its type's end

@@ -1,3 +1,4 @@
+-- What a list of files in memory holds at a path, and what is left of the one that is read.
 use Rattle.std.specs.Prelude.{◌≡◌, ℕ, List, [], ◌∷◌, Option, Some, None, length, drop, slice_get, bytes_eq, nat_le, if◌then◌else◌, option_map, option_and_then, string_bytes}
 use Rattle.dl_io.specs.Source.{Gives}
 use Rattle.dl_io.specs.declared.pieces.MemFile.{MemFile}

@@ -1,5 +1,6 @@
-use Rattle.std.specs.Prelude.{◌≡◌, ◌≢◌, ◌&&◌, ℕ, Bool, true, false, List, [], ◌∷◌, ◌++◌, Some, None, map, if◌then◌else◌, is_some, option_map, string_bytes}
-use Rattle.dl_io.specs.Source.{Source}
+-- What files and a sink in memory tell, and which of their calls fail.
+use Rattle.std.specs.Prelude.{◌≡◌, ◌≢◌, ◌&&◌, ℕ, Bool, true, false, List, [], ◌∷◌, ◌++◌, Some, None, map, if◌then◌else◌, Contains, is_some, option_map, string_bytes}
+use Rattle.dl_io.specs.Source.{Source, raised}
 use Rattle.dl_io.specs.Taken.{Taken}
 use Rattle.dl_io.specs.declared.pieces.MemFile.{MemFile}
 use Rattle.dl_io.specs.declared.memory_files.MemFiles.{MemFiles}
@@ -21,8 +22,17 @@ pub record Plan : Type 0 where
   pub fails : List ℕ
   pub calls : ℕ
 
+-- the plan of files in memory, with the calls made so far
 abbrev pub plan_of : MemFiles → Plan
 plan_of files = record { piece = files.piece; fails = files.fails.items; calls = files.calls }
+
+-- one call more was made; the count stands still at its type's end
+abbrev pub counted : Plan → Plan
+counted plan = record plan { calls = raised plan.calls 1 }
+
+-- the call made last is one of those that fail
+abbrev pub IsNamed : Plan → Type 0
+IsNamed plan = Contains plan.fails plan.calls
 
 -- what files in memory tell
 abbrev pub source_of : MemFiles → Source
@@ -69,5 +79,14 @@ pub record Script : Type 0 where
   pub calls : ℕ
   pub room : ℕ
 
+-- the script of a sink in memory, with the calls made so far
 abbrev pub script_of : MemSink → Script
 script_of sink = record { piece = sink.piece; fails = sink.fails.items; calls = sink.calls; room = sink.room }
+
+-- one call more was made; the count stands still at its type's end
+abbrev pub called : Script → Script
+called script = record script { calls = raised script.calls 1 }
+
+-- the call made last is one of those that fail
+abbrev pub IsRefused : Script → Type 0
+IsRefused script = Contains script.fails script.calls

@@ -1,3 +1,4 @@
+-- What the files of the host and a sink over a writer tell.
 use Rattle.std.specs.Prelude.{[], None, false}
 use Rattle.dl_io.specs.Source.{Source}
 use Rattle.dl_io.specs.Taken.{Taken}

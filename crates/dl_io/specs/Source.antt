@@ -1,3 +1,4 @@
+-- What files tell of themselves, and what a read gives.
 use Rattle.std.specs.Prelude.{◌≡◌, ℕ, ◌+◌, ◌-◌, ◌^◌, ◌≤◌, min, Bool, List, [], Option, Some, IfSome, length, take, drop}
 
 -- what files tell, and what happened to them

@@ -1,3 +1,4 @@
+-- What a sink tells of what it took.
 use Rattle.std.specs.Prelude.{◌≡◌, ℕ, List, ◌++◌, Option, Some, None}
 
 -- what a sink tells: the bytes written, where it tells them, and the number of faults so far

@@ -1,4 +1,7 @@
-ghost use Rattle.std.specs.Prelude.{◌≡◌, ◌≤◌, true, false, None, IfOk, OnOk, OnErr, List, ℕ};
+//! Files in memory, with calls that fail by their number.
+ghost use Rattle.std.specs.Prelude.{◌≡◌, ◌≤◌, ◌<◌, ◌⊎◌, ◌↔◌, true, false, Some, None, Contains, IfOk, IfSome, OnOk, OnErr, IsOk, IsErr, List, ℕ, length};
+ghost use Rattle.dl_io.specs.Faults.{HasCause};
+ghost use Rattle.dl_io.specs.Source.{SameFiles, Gives, raised};
 
 use crate::pieces::{MemFile, Reading, next_piece, reading_at};
 use crate::traits::{Failed, Files, Memory};
@@ -21,7 +24,7 @@ pub struct MemFiles {
 }
 
 impl MemFiles {
-    ghost use Rattle.dl_io.specs.Memory.{source_of, no_files, plan_of, is_reliable, Adds};
+    ghost use Rattle.dl_io.specs.Memory.{source_of, no_files, plan_of, counted, IsNamed, is_reliable, Adds};
 
     /// No file at first. A read gives at most `piece` bytes, and `fails` has the numbers of the
     /// calls that fail, attach and read counted together from 1.
@@ -66,7 +69,9 @@ impl MemFiles {
 
     // Counts a call, and says whether it is one of those that fail.
     fn fails_now(&mut self) -> bool
-        ensures fails { is_reliable self.old.fails.items ≡ true → result ≡ false }
+        ensures fails { (result ≡ true) ↔ IsNamed (plan_of self.new) }
+        ensures reliable { is_reliable self.old.fails.items ≡ true → result ≡ false }
+        ensures plan { plan_of self.new ≡ counted (plan_of self.old) }
         ensures same { self.new ≡ record self.old { calls = self.new.calls } }
     {
         self.calls = self.calls.saturating_add(1);
@@ -75,11 +80,23 @@ impl MemFiles {
 }
 
 impl Files for MemFiles {
-    ghost use Rattle.dl_io.specs.Memory.{source_of};
+    ghost use Rattle.dl_io.specs.Memory.{source_of, plan_of, counted, IsNamed};
 
     ghost source = { source_of };
 
-    fn attach(&mut self, file: u32, path: &str) -> Result<(), Failed> {
+    /// As for all files; and it fails exactly at a call that is named, and at an unknown path.
+    fn attach(&mut self, file: u32, path: &str) -> Result<(), Failed>
+        ensures plan { plan_of self.new ≡ counted (plan_of self.old) }
+        ensures fails { IsErr result ↔ (IsNamed (plan_of self.new) ⊎ ((source_of self.old).bytes_at path.now ≡ None)) }
+
+        ensures same { SameFiles (source_of self.old) (source_of self.new) }
+        ensures none_given { (source_of self.new).given ≡ 0 }
+        ensures attached { OnOk result ((source_of self.new).attached ≡ Some file) }
+        ensures all_left { OnOk result ((source_of self.new).left ≡ (source_of self.old).bytes_at path.now) }
+        ensures sound { Contains (source_of self.old).sound_paths path.now → IsOk result × ((source_of self.new).is_sound ≡ true) }
+        ensures cause { HasCause (source_of self.old).faults (source_of self.new).faults result }
+        ensures names { OnErr result ((source_of self.new).failed_last ≡ Some file) }
+    {
         let fails = self.fails_now();
         self.given = 0;
         self.reading = reading_at(&self.files, file, path, fails);
@@ -91,7 +108,25 @@ impl Files for MemFiles {
         Err(Failed)
     }
 
-    fn read(&mut self, file: u32, into: &mut [u8]) -> Result<usize, Failed> {
+    /// As for all files; and it gives at most `piece` bytes, and fails exactly at a call that is named, and where
+    /// nothing is known to be left.
+    fn read(&mut self, file: u32, into: &mut [u8]) -> Result<usize, Failed>
+        requires attached { (source_of self.old).attached ≡ Some file }
+        requires room { 0 < length into.old }
+        ensures plan { plan_of self.new ≡ counted (plan_of self.old) }
+        ensures piece { IfOk result (λ n. n ≤ (plan_of self.old).piece) }
+        ensures fails { IsErr result ↔ (IsNamed (plan_of self.new) ⊎ ((source_of self.old).left ≡ None)) }
+
+        ensures same { SameFiles (source_of self.old) (source_of self.new) }
+        ensures same_attached { ((source_of self.new).attached ≡ (source_of self.old).attached) × ((source_of self.new).is_sound ≡ (source_of self.old).is_sound) }
+        ensures count { IfOk result (λ n. n ≤ length into.old) }
+        ensures gives { IfOk result (λ n. IfSome (source_of self.old).left (λ left. Gives left n into.new (source_of self.new).left)) }
+        ensures given { IfOk result (λ n. (source_of self.new).given ≡ raised (source_of self.old).given n) }
+        ensures given_err { OnErr result ((source_of self.new).given ≡ (source_of self.old).given) }
+        ensures sound { (source_of self.old).is_sound ≡ true → IsOk result }
+        ensures cause { HasCause (source_of self.old).faults (source_of self.new).faults result }
+        ensures names { OnErr result ((source_of self.new).failed_last ≡ Some file) }
+    {
         let fails = self.fails_now();
         if let Some((n, reading)) = next_piece(&self.files, self.reading, self.piece, into, fails) {
             self.reading = Some(reading);

@@ -1,4 +1,7 @@
-ghost use Rattle.std.specs.Prelude.{◌≡◌, ◌≤◌, [], Some, IfOk};
+//! A sink in memory, with calls that fail by their number.
+ghost use Rattle.std.specs.Prelude.{◌≡◌, ◌≤◌, ◌<◌, [], Some, Contains, IfOk, OnErr, IfSome, IsErr, length, take};
+ghost use Rattle.dl_io.specs.Faults.{HasCause};
+ghost use Rattle.dl_io.specs.Taken.{Took};
 
 use crate::traits::{Failed, Memory, Sink};
 use std::alloc::Global;
@@ -16,7 +19,7 @@ pub struct MemSink {
 }
 
 impl MemSink {
-    ghost use Rattle.dl_io.specs.Memory.{taken_of, script_of};
+    ghost use Rattle.dl_io.specs.Memory.{taken_of, script_of, IsRefused};
 
     /// A sink with room for so many bytes, of which a call takes at most `piece`. `fails` has the
     /// numbers, counted from 1, of the calls that fail.
@@ -44,7 +47,10 @@ impl MemSink {
 
     // How many bytes of a piece of this length the next call takes.
     fn next_count(&self, len: usize) -> usize
-        ensures { result ≤ len }
+        ensures fits { result ≤ len }
+        ensures small { result ≤ self.now.piece }
+        ensures named { IsRefused (script_of self.now) → result ≡ 0 }
+        ensures full { self.now.room ≤ length self.now.bytes.items → result ≡ 0 }
     {
         if self.fails.contains(&self.calls) {
             return 0;
@@ -55,11 +61,22 @@ impl MemSink {
 }
 
 impl Sink for MemSink {
-    ghost use Rattle.dl_io.specs.Memory.{taken_of};
+    ghost use Rattle.dl_io.specs.Memory.{taken_of, script_of, called, IsRefused};
 
     ghost taken = { taken_of };
 
-    fn write(&mut self, bytes: &[u8]) -> Result<usize, Failed> {
+    /// As for all sinks; and it takes at most `piece` bytes, and fails at a call that is named and on a full room.
+    fn write(&mut self, bytes: &[u8]) -> Result<usize, Failed>
+        requires { 0 < length bytes.now }
+        ensures script { script_of self.new ≡ called (script_of self.old) }
+        ensures piece { IfOk result (λ n. n ≤ (script_of self.old).piece) }
+        ensures named { IsRefused (script_of self.new) → IsErr result }
+        ensures full { IfSome (taken_of self.old).written (λ written. (script_of self.old).room ≤ length written → IsErr result) }
+
+        ensures takes { IfOk result (λ n. (0 < n) × (n ≤ length bytes.now) × Took (taken_of self.old).written (taken_of self.new).written (take n bytes.now)) }
+        ensures err { OnErr result ((taken_of self.new).written ≡ (taken_of self.old).written) }
+        ensures cause { HasCause (taken_of self.old).faults (taken_of self.new).faults result }
+    {
         self.calls = self.calls.saturating_add(1);
         let n = self.next_count(bytes.len());
         if n > 0 && self.bytes.extend_from_slice(&bytes[..n]).is_ok() {

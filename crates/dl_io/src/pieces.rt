@@ -1,4 +1,5 @@
-ghost use Rattle.std.specs.Prelude.{◌≡◌, ◌≤◌, ◌<◌, true, false, Some, None, IsSome, IfSome, IfNone, slice_get, [], MatchOption, length, take, min, option_map};
+//! How files in memory are found and given piece by piece.
+ghost use Rattle.std.specs.Prelude.{◌≡◌, ◌≤◌, ◌<◌, ◌⊎◌, true, false, Some, None, IsSome, IfSome, IfNone, slice_get, [], MatchOption, length, take, min, option_map};
 ghost use Rattle.std.specs.Option.{option_copied};
 ghost use Rattle.dl_io.specs.Source.{Gives};
 ghost use Rattle.dl_io.specs.Files.{bytes_in, rest_of, left_of, Continues};
@@ -23,6 +24,7 @@ pub struct Reading {
 pub fn reading_at(files: &[MemFile], file: u32, path: &str, fails: bool) -> Option<Reading>
     ensures begins { IfSome result (λ reading. (reading.file ≡ file) × (left_of files.now (Some reading) ≡ bytes_in files.now path.now)) }
     ensures found { fails ≡ false → IsSome (bytes_in files.now path.now) → IsSome result }
+    ensures none { (fails ≡ true) ⊎ (bytes_in files.now path.now ≡ None) → result ≡ None }
 {
     if fails {
         return None;
@@ -39,6 +41,7 @@ pub fn reading_at(files: &[MemFile], file: u32, path: &str, fails: bool) -> Opti
 fn place_of(files: &[MemFile], path: &str) -> Option<usize>
     ensures none { IfNone result (bytes_in files.now path.now ≡ None) }
     ensures place { IfSome result (λ place. bytes_in files.now path.now ≡ option_map (λ file. file.bytes.items) (slice_get files.now place)) }
+    ensures there { IfSome result (λ place. IsSome (bytes_in files.now path.now)) }
 {
     for (i, file) in files.iter().enumerate() {
         if file.path.as_str() == path {
@@ -61,6 +64,7 @@ fn copy_piece(left: &[u8], piece: usize, into: &mut [u8]) -> usize
     requires piece { 1 ≤ piece }
     requires room { 0 < length into.old }
     ensures put { take result into.new ≡ take result left.now }
+    ensures small { result ≤ piece }
     ensures fits { result ≤ length left.now }
     ensures count { result ≤ length into.old }
     ensures ends { result ≡ 0 → left.now ≡ [] }
@@ -81,8 +85,9 @@ pub fn next_piece(
     requires piece { 1 ≤ piece }
     requires room { 0 < length into.old }
     ensures some { IfSome result (λ next. Continues files.now reading next.0 into.new next.1) }
-    ensures count { IfSome result (λ next. next.0 ≤ length into.old) }
+    ensures count { IfSome result (λ next. (next.0 ≤ length into.old) × (next.0 ≤ piece)) }
     ensures sound { fails ≡ false → IsSome (left_of files.now reading) → IsSome result }
+    ensures none { (fails ≡ true) ⊎ (left_of files.now reading ≡ None) → result ≡ None }
 {
     if fails {
         return None;

@@ -1,3 +1,4 @@
+//! The files of the host, and a sink over a writer of the host.
 ghost use Rattle.std.specs.Prelude.{◌≡◌, None};
 
 use crate::traits::{Failed, Files, Sink};

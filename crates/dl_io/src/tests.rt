@@ -1,3 +1,4 @@
+//! What files and sinks in memory and of the host give and take, call by call.
 use super::*;
 use std::alloc::{AllocError, Global};
 use std::test::Fail;

@@ -1,3 +1,4 @@
+//! What files and a sink promise, whatever they are.
 ghost use Rattle.std.specs.Prelude.{◌≡◌, ℕ, ◌<◌, ◌≤◌, true, Some, Contains, IsOk, IfOk, OnOk, OnErr, IfSome, length, take};
 ghost use Rattle.dl_io.specs.Faults.{HasCause};
 ghost use Rattle.dl_io.specs.Source.{Source, SameFiles, Gives, raised};

@@ -5,6 +5,7 @@ pub mod Keeping
 pub mod Lookups
 pub mod Members
 pub mod NameOrder
+mod Padding
 mod Present
 mod StartHeap
 mod Starts

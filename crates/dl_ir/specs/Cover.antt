@@ -1,3 +1,4 @@
+-- That a history and refusals have each operation of the files once.
 use Rattle.std.specs.Prelude.{◌≡◌, ◌+◌, ◌<◌, ◌&&◌, ◌==◌, ℕ, zero, suc, Option, Some, None, List, slice_get, count_by, AllPairs, option_and_then}
 use Rattle.dl_ir.specs.declared.answers.Entry.{Entry}
 use Rattle.dl_ir.specs.declared.answers.Refusal.{Refusal}

@@ -1,3 +1,4 @@
+-- The values of expressions and of conditions.
 use Rattle.std.specs.Prelude.{◌^◌, Bool, true, false, not, ◌&&◌, ℤ, pos, negsuc, ◌+ℤ◌, ◌-ℤ◌, ◌*ℤ◌, neg_ℤ, int_div, int_rem, int_lt, int_le, nat_eq, nat_lt, Option, Some, None, Result, Ok, Err, List, slice_get, if◌then◌else◌}
 use Rattle.std.specs.Ordering.{int_eq}
 use Rattle.dl_ir.specs.declared.answers.Fault.{Fault}

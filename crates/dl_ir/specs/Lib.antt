@@ -6,6 +6,7 @@ pub mod Cover
 pub mod Evaluation
 pub mod Heap
 pub mod Meaning
+pub mod Padding
 pub mod Places
 pub mod References
 pub mod Relation

@@ -1,4 +1,5 @@
-use Rattle.std.specs.Prelude.{ℕ, zero, suc, ◌+◌, ◌-◌, ◌==◌, Bool, false, ℤ, Option, Some, None, Ok, Err, List, [], ◌∷◌, map, nat_le, slice_get, slice_set, option_and_then, if◌then◌else◌}
+-- The meaning of statements as a function from state to outcome.
+use Rattle.std.specs.Prelude.{ℕ, zero, suc, ◌+◌, ◌-◌, ◌==◌, Bool, false, ℤ, Option, Some, None, Ok, Err, List, [], ◌∷◌, ◌++◌, length, map, nat_le, slice_get, slice_set, option_and_then, if◌then◌else◌}
 use Rattle.std.specs.FinMap as finite
 use Rattle.dl_ir.specs.declared.answers.End.{End}
 use Rattle.dl_ir.specs.declared.answers.End.TheVariants as ends
@@ -22,12 +23,13 @@ pub record Context : Type 0 where
   pub ticket : ℕ
   pub allocs : ℕ
 
--- what a statement changes: the locals, the heap's objects, the turns left, and the number of objects made
+-- what a statement changes: the locals, the heap's objects, the turns left, the number of objects made, and the numbers emitted
 pub record State : Type 0 where
   pub locals : List Value
   pub objects : Objects
   pub turns : ℕ
   pub made : ℕ
+  pub emitted : List ℤ
 
 -- the state after a statement, and how the operation ended there, if it did
 pub record Outcome : Type 0 where
@@ -112,7 +114,12 @@ make cx p kind s = record {
   objects = finite.insert s.objects (next_name cx s) (object_of kind (slice_get cx.source.kinds kind));
   turns = s.turns;
   made = s.made + 1;
+  emitted = s.emitted;
 }
+
+-- a number is emitted behind the others
+abbrev pub add_emitted : ℤ → State → State
+add_emitted number s = record s { emitted = s.emitted ++ number ∷ [] }
 
 -- what follows runs, or does not where the operation has ended
 abbrev pub go_on_from : Option End → State → Does → Outcome
@@ -159,6 +166,7 @@ step cx (Stmt-F.Cut q f) s = links_to q f None s
 step cx (Stmt-F.If c yes_block no_block) s =
     with_truth (holds_of c s.locals) s (λ b. if b then in_turn yes_block s else in_turn no_block s)
 step cx (Stmt-F.While c body) s = loops s.turns c (in_turn body) s
+step cx (Stmt-F.Emit e) s = with_value (value_of e s.locals) s (λ n. if nat_le 16 (length s.emitted) then ends_with ends.Emits s else goes_on (add_emitted n s))
 step cx (Stmt-F.Return e) s = with_value (value_of e s.locals) s (λ n. ends_with (ends.Ok n) s)
 
 -- what a statement does

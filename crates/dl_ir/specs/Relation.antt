@@ -1,4 +1,5 @@
-use Rattle.std.specs.Prelude.{◌≡◌, ◌<◌, ◌≤◌, ℕ, true, false, ℤ, Option, Some, None, Ok, Err, List, [], ◌∷◌, slice_get}
+-- The meaning of statements as a relation by cases: one case for each outcome of each statement.
+use Rattle.std.specs.Prelude.{◌≡◌, ◌<◌, ◌≤◌, ℕ, true, false, ℤ, Option, Some, None, Ok, Err, List, [], ◌∷◌, length, slice_get}
 use Rattle.std.specs.FinMap as finite
 use Rattle.dl_ir.specs.declared.answers.End.{End}
 use Rattle.dl_ir.specs.declared.answers.End.TheVariants as ends
@@ -11,9 +12,9 @@ use Rattle.dl_ir.specs.declared.names.Value.{Value}
 use Rattle.dl_ir.specs.declared.names.Value.TheVariants.{Int, Ref}
 use Rattle.dl_ir.specs.declared.objects.Obj.{Obj}
 use Rattle.dl_ir.specs.declared.statements.Stmt.{Stmt}
-use Rattle.dl_ir.specs.declared.statements.Stmt.TheVariants.{SetInt, Load, Store, Copy, Null, Follow, New, Link, Cut, If, While, Return}
+use Rattle.dl_ir.specs.declared.statements.Stmt.TheVariants.{SetInt, Load, Store, Copy, Null, Follow, New, Link, Cut, If, While, Emit, Return}
 use Rattle.dl_ir.specs.Evaluation.{value_of, holds_of}
-use Rattle.dl_ir.specs.Meaning.{Context, State, fault_end, field_in, set_local, set_field, take_turn, make}
+use Rattle.dl_ir.specs.Meaning.{Context, State, fault_end, field_in, set_local, set_field, take_turn, make, add_emitted}
 
 -- the local is there, and holds this reference
 abbrev pub RefersTo : State → ℕ → Option Name → Type 0
@@ -23,11 +24,11 @@ RefersTo s p target = slice_get s.locals p ≡ Some (Ref target)
 abbrev pub HasField : State → Name → ℕ → Value → Type 0
 HasField s name f value = field_in s name f ≡ Some value
 
--- the object is there, and its mark says this
-pub record IsMarked (s : State) (name : Name) : Type 0 where
+-- the object is there, and sealed
+pub record IsSealed (s : State) (name : Name) : Type 0 where
   pub object : Obj
   pub there : finite.get s.objects name ≡ Some object
-  pub marked : object.sealed ≡ true
+  pub sealed : object.sealed ≡ true
 
 -- the reference is null, or names an object that is there and unsealed
 pub data IsOpen (s : State) : Option Name → Type 0 where
@@ -57,7 +58,7 @@ mutual
     follow : {p q f : ℕ} {s : State} {name : Name} {target : Option Name} → RefersTo s q (Some name) → HasField s name f (Ref target) → IsOpen s target
         → Runs cx (Follow p q f) s (set_local p (Ref target) s) None
     follow_null : {p q f : ℕ} {s : State} → RefersTo s q None → Runs cx (Follow p q f) s s (Some ends.Null)
-    follow_sealed : {p q f : ℕ} {s : State} {name target : Name} → RefersTo s q (Some name) → HasField s name f (Ref (Some target)) → IsMarked s target
+    follow_sealed : {p q f : ℕ} {s : State} {name target : Name} → RefersTo s q (Some name) → HasField s name f (Ref (Some target)) → IsSealed s target
         → Runs cx (Follow p q f) s s (Some (ends.Sealed target))
     -- p = new K;
     new : {p kind : ℕ} {s : State} {declared : KindDecl} → s.made < cx.allocs → slice_get cx.source.kinds kind ≡ Some declared
@@ -67,13 +68,13 @@ mutual
     link : {q f p : ℕ} {s : State} {name : Name} {old target : Option Name} → RefersTo s q (Some name) → HasField s name f (Ref old) → IsOpen s old → RefersTo s p target
         → Runs cx (Link q f p) s (set_field name f (Ref target) s) None
     link_null : {q f p : ℕ} {s : State} → RefersTo s q None → Runs cx (Link q f p) s s (Some ends.Null)
-    link_sealed : {q f p : ℕ} {s : State} {name old : Name} → RefersTo s q (Some name) → HasField s name f (Ref (Some old)) → IsMarked s old
+    link_sealed : {q f p : ℕ} {s : State} {name old : Name} → RefersTo s q (Some name) → HasField s name f (Ref (Some old)) → IsSealed s old
         → Runs cx (Link q f p) s s (Some (ends.Sealed old))
     -- q.f = null;
     cut : {q f : ℕ} {s : State} {name : Name} {old : Option Name} → RefersTo s q (Some name) → HasField s name f (Ref old) → IsOpen s old
         → Runs cx (Cut q f) s (set_field name f (Ref None) s) None
     cut_null : {q f : ℕ} {s : State} → RefersTo s q None → Runs cx (Cut q f) s s (Some ends.Null)
-    cut_sealed : {q f : ℕ} {s : State} {name old : Name} → RefersTo s q (Some name) → HasField s name f (Ref (Some old)) → IsMarked s old
+    cut_sealed : {q f : ℕ} {s : State} {name old : Name} → RefersTo s q (Some name) → HasField s name f (Ref (Some old)) → IsSealed s old
         → Runs cx (Cut q f) s s (Some (ends.Sealed old))
     -- if (c) {..} else {..}
     if_true : {c : Cond} {first : List Stmt} (second : List Stmt) {s t : State} {end : Option End} → holds_of c s.locals ≡ Ok true → RunsBlock cx first s t end
@@ -84,6 +85,10 @@ mutual
         → Runs cx (If c first second) s s (Some (fault_end fault))
     -- while (c) {..}
     while : {c : Cond} {body : List Stmt} {s t : State} {end : Option End} → Loops cx c body s t end → Runs cx (While c body) s t end
+    -- emit e;
+    emit : {e : Expr} {s : State} {n : ℤ} → value_of e s.locals ≡ Ok n → length s.emitted < 16 → Runs cx (Emit e) s (add_emitted n s) None
+    emit_fault : {e : Expr} {s : State} {fault : Fault} → value_of e s.locals ≡ Err fault → Runs cx (Emit e) s s (Some (fault_end fault))
+    emit_full : {e : Expr} {s : State} {n : ℤ} → value_of e s.locals ≡ Ok n → 16 ≤ length s.emitted → Runs cx (Emit e) s s (Some ends.Emits)
     -- return e;
     return : {e : Expr} {s : State} {n : ℤ} → value_of e s.locals ≡ Ok n → Runs cx (Return e) s s (Some (ends.Ok n))
     return_fault : {e : Expr} {s : State} {fault : Fault} → value_of e s.locals ≡ Err fault → Runs cx (Return e) s s (Some (fault_end fault))

@@ -15,7 +15,7 @@ use Rattle.dl_ir.specs.declared.modules.OpDecl.{OpDecl}
 use Rattle.dl_ir.specs.declared.modules.Ty.{Ty}
 use Rattle.dl_ir.specs.declared.modules.Ty.TheVariants.{Int, Of}
 use Rattle.dl_ir.specs.declared.statements.Stmt.{Stmt}
-use Rattle.dl_ir.specs.declared.statements.Stmt.TheVariants.{SetInt, Load, Store, Copy, Null, Follow, New, Link, Cut, If, While, Return}
+use Rattle.dl_ir.specs.declared.statements.Stmt.TheVariants.{SetInt, Load, Store, Copy, Null, Follow, New, Link, Cut, If, While, Emit, Return}
 use Rattle.dl_ir.specs.Heap.{IsNodeKind}
 
 -- the types of an operation's locals: its parameters, then its vars
@@ -79,6 +79,8 @@ mutual
         → IsTyped source types (If c first second)
     -- while (c) {..}
     while : {c : Cond} {body : List Stmt} → IsTypedCond types c → IsTypedBlock source types body → IsTyped source types (While c body)
+    -- emit e;
+    emit : {e : Expr} → IsTypedExpr types e → IsTyped source types (Emit e)
     -- return e;
     return : {e : Expr} → IsTypedExpr types e → IsTyped source types (Return e)
 

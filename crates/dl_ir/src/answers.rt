@@ -1,3 +1,6 @@
+//! What operations come to: how they end, what they answer, and the records of those carried out and of those refused.
+
+use crate::emits::Emits;
 use crate::names::Name;
 
 /// Why an expression or a condition has no value.
@@ -24,15 +27,19 @@ pub enum End {
     Fuel,
     /// An object was to be made, and as many as allowed had been made.
     Quota,
+    /// A number was to be emitted, and 16 had been emitted.
+    Emits,
     /// A reference to this sealed object was followed or overwritten.
     Sealed(Name),
 }
 
-/// What an operation answered: how it ended, and the least name that was newly sealed, if one was.
+/// What an operation answered: how it ended, the least name that was newly sealed, if one was, and the numbers that it
+/// emitted.
 #[derive(Clone, Copy, Debug, PartialEq, Eq)]
 pub struct Answer {
     pub end: End,
     pub breach: Option<Name>,
+    pub emitted: Emits,
 }
 
 /// An operation that was carried out. The version of a reservation or a return is 0 where there was none.

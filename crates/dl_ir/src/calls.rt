@@ -1,3 +1,5 @@
+//! The calls of an operation file.
+
 use sqlite_items::Items;
 
 /// One operation of an operation file, by its number in the module, with its arguments. A root argument is the

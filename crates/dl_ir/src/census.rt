@@ -1,3 +1,5 @@
+//! The objects of a heap with what is counted and filed beside them.
+
 ghost use Rattle.std.specs.Prelude.{◌≡◌, ◌&&◌, ◌+◌, ◌^◌, ◌<◌, ◌≤◌, ℕ, true, Some, None, IfOk, OnSome, length, count_by, ◌∷◌, []};
 ghost use Rattle.std.specs.FinMap as map;
 ghost use Rattle.dl_ir.specs.Census.{open_at, marked, IsFiled, IsFiledBut, Gains, Loses, AreThere};

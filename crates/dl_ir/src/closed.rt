@@ -1,3 +1,5 @@
+//! What a run leaves.
+
 use crate::answers::{Entry, Refusal};
 use crate::heaps::Heap;
 use sqlite_items::Items;

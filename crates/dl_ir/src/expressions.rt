@@ -1,3 +1,5 @@
+//! Expressions over numbers, and conditions.
+
 use sqlite_items::Boxed;
 
 /// A binary operator on numbers.

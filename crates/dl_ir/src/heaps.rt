@@ -1,3 +1,5 @@
+//! The heap: objects under their names, with what settling has to know of them at hand.
+
 ghost use Rattle.std.specs.Prelude.{◌≡◌, ℕ, [], ◌∷◌, ◌+◌, ◌^◌, ◌<◌, ◌≤◌, ◌↔◌, IsTrue, IfOk, OnOk, Some, length, slice_get, count_by, option_and_then, None, if◌then◌else◌};
 ghost use Rattle.std.specs.Option.{option_copied};
 ghost use Rattle.std.specs.List.{AllByRecursion};
@@ -11,7 +13,7 @@ ghost use Rattle.dl_ir.specs.declared.names.Name.{Name};
 ghost use Rattle.dl_ir.specs.declared.objects.Obj.{Obj};
 
 use crate::census::Census;
-use crate::entries::Entries;
+use crate::iterators::TableIter;
 use crate::modules::{KindDecl, Module};
 use crate::names::{Name, Value};
 use crate::objects::Obj;
@@ -167,7 +169,7 @@ impl Heap {
     }
 
     /// The names of the objects with the objects, in the order of names.
-    pub fn iter(&self) -> Entries<'_, Obj>
+    pub fn iter(&self) -> TableIter<'_, Obj>
         ensures { result ≡ map.entries self.now.objects }
     {
         self.census.objects.iter()
@@ -191,6 +193,13 @@ impl Heap {
         ensures { IsTrue result ↔ (map.len self.now.objects ≡ 0) }
     {
         self.len() == 0
+    }
+
+    /// Whether there is memory for so many more objects.
+    pub fn has_room_for(&self, more: usize) -> bool
+        ensures { IsTrue result ↔ (map.len self.now.objects + more ≤ self.now.room) }
+    {
+        self.census.objects.has_room_for(more)
     }
 
     /// Whether there is no memory for another object.

@@ -1,3 +1,5 @@
+//! Modules, as they are once read and checked.
+
 use crate::statements::Block;
 use sqlite_items::Items;
 

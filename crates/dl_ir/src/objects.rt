@@ -1,3 +1,5 @@
+//! Objects and their fields.
+
 ghost use Rattle.std.specs.Prelude.{◌≡◌, [], ◌∷◌, ◌++◌, ◌<◌, ◌≤◌, length, slice_get, slice_set, ◌↔◌, IsTrue};
 ghost use Rattle.dl_ir.specs.Heap.{blank, blank_fields, blank_object};
 

@@ -1,3 +1,5 @@
+//! The statements of an operation.
+
 use crate::expressions::{Cond, Expr};
 use sqlite_items::Items;
 
@@ -29,6 +31,8 @@ pub enum Stmt {
     If { c: Cond, yes: Block, no: Block },
     /// `while (c) {..}`
     While { c: Cond, body: Block },
+    /// `emit e;`, in version 2 of the language
+    Emit { e: Expr },
     /// `return e;`
     Return { e: Expr },
 }

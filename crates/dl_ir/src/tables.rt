@@ -1,3 +1,5 @@
+//! Tables of values under names.
+
 ghost use Rattle.std.specs.Prelude.{◌≡◌, ◌↔◌, true, [], ◌+◌, ◌<◌, ◌≤◌, IsTrue, IfOk, IfErr, None, Some, Option, length, take, slice_get, slice_set, vec_capacity};
 ghost use Rattle.std.specs.Option.{option_copied, option_map, option_map_or};
 ghost use Rattle.std.specs.FinMap as map;
@@ -7,7 +9,7 @@ ghost use Rattle.dl_ir.specs.Places.{IsAt, IsGap, present};
 ghost use Rattle.dl_ir.specs.declared.names.Name.{Name};
 ghost use Rattle.dl_ir.specs.declared.objects.Obj.{Obj};
 
-use crate::entries::Entries;
+use crate::iterators::TableIter;
 use crate::names::{Name, Value};
 use crate::objects::Obj;
 use std::alloc::{AllocError, Global};
@@ -80,10 +82,10 @@ impl<V> Table<V> {
     }
 
     /// The names and the values under them, in the order of names.
-    pub fn iter(&self) -> Entries<'_, V>
+    pub fn iter(&self) -> TableIter<'_, V>
         ensures { result ≡ map.entries self.now.rows }
     {
-        Entries {
+        TableIter {
             left: &self.entries,
         }
     }
@@ -93,6 +95,13 @@ impl<V> Table<V> {
         ensures { result ≡ map.len self.now.rows }
     {
         self.len
+    }
+
+    /// Whether there is memory for so many more values.
+    pub fn has_room_for(&self, more: usize) -> bool
+        ensures { IsTrue result ↔ (map.len self.now.rows + more ≤ self.now.room) }
+    {
+        more <= self.room - self.len
     }
 
     /// Whether there is no memory for another value.

@@ -11,9 +11,9 @@ use Rattle.dl_ir.specs.declared.names.Value.{Value}
 use Rattle.dl_ir.specs.declared.names.Value.TheVariants as values
 use Rattle.dl_ir.specs.declared.objects.Obj.{Obj}
 use Rattle.dl_ir.specs.Heap.{Objects, HasObject, HasType, IsHeapOf, IsNodeKind, blank_object, with_field_of}
-use Rattle.dl_ir.specs.Meaning.{Context, State, set_local, set_field, take_turn, make, next_name, object_of}
+use Rattle.dl_ir.specs.Meaning.{Context, State, set_local, set_field, take_turn, add_emitted, make, next_name, object_of}
 use Rattle.dl_ir.specs.Relation as relation
-use Rattle.dl_ir.specs.Relation.{RefersTo, HasField, IsOpen, IsMarked}
+use Rattle.dl_ir.specs.Relation.{RefersTo, HasField, IsOpen, IsSealed}
 use Rattle.dl_meaning.specs.Fitting.{Fits, HoldsType}
 use Rattle.dl_ir.specs.Typed.{HasFieldOf, IsLocalOf}
 use Rattle.dl_meaning.proofs.Heaps.{local_stays, changed, stays_written, written, stays_made, made, looked, inserted}
@@ -120,12 +120,12 @@ to_field m h kind (Some name) heap node has = elim (cases_eq name.ticket 0) [
 
 -- a target is null, or unsealed, or sealed
 by_mark : {P : Type 0} (s : State) (name : Name) (object : Obj) (mark : Bool) → finite.get s.objects name ≡ Some object → object.sealed ≡ mark
-    → (IsOpen s (Some name) → P) → (IsMarked s name → P) → P
+    → (IsOpen s (Some name) → P) → (IsSealed s name → P) → P
 by_mark s name object false there is at_open at_marked = at_open (relation.unsealed there is)
-by_mark s name object true there is at_open at_marked = at_marked (record { object = object; there = there; marked = is })
+by_mark s name object true there is at_open at_marked = at_marked (record { object = object; there = there; sealed = is })
 
 pub by_open : {P : Type 0} (s : State) (holder : Name) (f kind : ℕ) (target : Option Name) → HasField s holder f (values.Ref target) → HasType s.objects (types.Of kind) (values.Ref target)
-    → (IsOpen s target → P) → ((name : Name) → HasField s holder f (values.Ref (Some name)) → IsMarked s name → P) → P
+    → (IsOpen s target → P) → ((name : Name) → HasField s holder f (values.Ref (Some name)) → IsSealed s name → P) → P
 by_open s holder f kind None has of_type at_open at_marked = at_open relation.nothing
 by_open s holder f kind (Some name) has of_type at_open at_marked =
     by_mark s name of_type.1.object of_type.1.object.sealed of_type.1.is_there refl at_open (at_marked name has)
@@ -151,6 +151,10 @@ fits_local {locals = locals} {s = s} x t value fits is has = record {
 -- a turn is taken
 pub fits_turn : {cx : Context} {locals : List Ty} {s : State} → Fits cx locals s → Fits cx locals (take_turn s)
 fits_turn fits = record { one_each = fits.one_each; typed = fits.typed; heap = fits.heap; ticket = fits.ticket; not_later = fits.not_later; fresh = fits.fresh }
+
+-- a number is emitted
+pub fits_emitted : {cx : Context} {locals : List Ty} {s : State} (number : ℤ) → Fits cx locals s → Fits cx locals (add_emitted number s)
+fits_emitted number fits = record { one_each = fits.one_each; typed = fits.typed; heap = fits.heap; ticket = fits.ticket; not_later = fits.not_later; fresh = fits.fresh }
 
 -- a field gets a value of its type
 pub fits_field : {cx : Context} {locals : List Ty} {s : State} {name : Name} {kind f : ℕ} {t : Ty} (value : Value) → Fits cx locals s → HasObject s.objects name kind
@@ -193,7 +197,7 @@ fits_new {cx = cx} {locals = locals} {s = s} {kind = kind} p fits is node =
     let none : finite.get s.objects name ≡ None = not_there (finite.get s.objects name) (λ object there.
     let early : s.made + 1 ≤ s.made = fits.fresh name object there refl in omega (arith, early)) in
     let stays = stays_made s.objects name new none in
-    let grown : Fits cx locals (record { locals = s.locals; objects = finite.insert s.objects name new; turns = s.turns; made = s.made + 1 }) = record {
+    let grown : Fits cx locals (record { locals = s.locals; objects = finite.insert s.objects name new; turns = s.turns; made = s.made + 1; emitted = s.emitted }) = record {
       one_each = fits.one_each;
       typed = λ x u v u_is v_is. local_stays stays u v (fits.typed x u v u_is v_is);
       heap = made cx.source s.objects name kind node fits.heap none fits.ticket;
@@ -208,5 +212,5 @@ fits_new {cx = cx} {locals = locals} {s = s} {kind = kind} p fits is node =
       ];
     } in
     let after = fits_local p (types.Of kind) (values.Ref (Some name)) grown is (record { object = new; is_there = inserted s.objects name new; of_kind = refl }) in
-    subst (λ r. Fits cx locals (record { locals = slice_set s.locals p (values.Ref (Some name)); objects = finite.insert s.objects name (object_of kind r); turns = s.turns; made = s.made + 1 }))
+    subst (λ r. Fits cx locals (record { locals = slice_set s.locals p (values.Ref (Some name)); objects = finite.insert s.objects name (object_of kind r); turns = s.turns; made = s.made + 1; emitted = s.emitted }))
     (sym node.is_there) after

@@ -1,57 +1,29 @@
 -- A call of a checked module has one outcome, and leaves a heap of the module.
-use Rattle.std.proofs.Common.{◌≡◌, ℕ, zero, suc, ◌+◌, ◌<◌, ◌≤◌, ℤ, List, [], ◌∷◌, map, max, fold, refl, sym, ap, subst, ◌∙◌, Option, Some, None, arith, All, inl, inr, slice_get, true, false, ◌||◌}
+use Rattle.std.proofs.Common.{◌≡◌, ℕ, zero, suc, ◌+◌, ◌<◌, ◌≤◌, List, [], ◌∷◌, max, fold, refl, sym, ap, subst, ◌∙◌, Option, Some, None, arith, All, inl, inr, slice_get, true, false, ◌||◌}
 use Rattle.std.specs.Prelude.{option_and_then}
-use Rattle.std.specs.List.{list_any, zip}
+use Rattle.std.specs.List.{list_any}
 use Rattle.std.specs.FinMap as finite
 use Rattle.dl_ir.specs.declared.answers.Entry.{Entry}
 use Rattle.dl_ir.specs.declared.calls.Call.{Call}
 use Rattle.dl_ir.specs.declared.modules.KindDecl.{KindDecl}
-use Rattle.dl_ir.specs.declared.modules.LocalDecl.{LocalDecl}
 use Rattle.dl_ir.specs.declared.modules.Module.{Module}
-use Rattle.dl_ir.specs.declared.modules.OpDecl.{OpDecl}
-use Rattle.dl_ir.specs.declared.modules.Ty.{Ty}
-use Rattle.dl_ir.specs.declared.modules.Ty.TheVariants as types
 use Rattle.dl_ir.specs.declared.names.Name.{Name}
-use Rattle.dl_ir.specs.declared.names.Value.{Value}
-use Rattle.dl_ir.specs.declared.names.Value.TheVariants as values
 use Rattle.dl_ir.specs.declared.objects.Obj.{Obj}
-use Rattle.dl_ir.specs.CallForms.{AllFit, FitsType, IsCallOf}
+use Rattle.dl_ir.specs.CallForms.{IsCallOf}
 use Rattle.dl_ir.specs.Checked.{HasRoot, IsChecked, IsOperation, is_root}
 use Rattle.dl_ir.specs.Cover.{call_at}
 use Rattle.dl_ir.specs.Heap.{Objects, IsHeapOf, root}
 use Rattle.dl_ir.specs.Typed.{types_of}
-use Rattle.dl_shape.specs.Operation.{root_number, argument_value, result_of, operated_where}
+use Rattle.dl_shape.specs.Operation.{result_of, operated_where}
 use Rattle.dl_shape.specs.Replay.{after_call, greatest_ticket, IsLegalFrom, ends, goes_on}
 use Rattle.dl_ir.proofs.Members.{Held, In, in_entries}
-use Rattle.dl_meaning.specs.FirstStates.{AllHold, HasTicketsBelow}
-use Rattle.dl_meaning.specs.Fitting.{Fits, HoldsType}
+use Rattle.dl_meaning.specs.FirstStates.{HasTicketsBelow}
 use Rattle.dl_meaning.specs.Operations.{context_of, begun, OperationsHaveOneOutcome, CallsGiveTheOutcome, CallsLeaveHeaps, AreFilesOf, RisesFrom, ReplaysLeaveHeaps, LegalReplaysLeaveHeaps}
-use Rattle.dl_meaning.proofs.First.{first_states_fit, roots_are_held}
+pub use Rattle.dl_meaning.proofs.First.{begun_fits}
 use Rattle.dl_meaning.proofs.One.{one}
 use Rattle.dl_meaning.proofs.Places.{all_at}
 use Rattle.dl_meaning.proofs.Settled.{heap_settled, settled_below}
 use Rattle.dl_meaning.proofs.Sound.{sound_block}
-
--- the values of arguments
-abbrev given : List LocalDecl → List ℤ → List Value
-given params arguments = map (λ (pair : LocalDecl × ℤ). argument_value pair.0.ty pair.1) (zip params arguments)
-
-one_held : (source : Module) (h : Objects) (t : Ty) (argument : ℤ) → IsHeapOf source h → FitsType source t argument → HoldsType h t (argument_value t argument)
-one_held source h types.Int argument heap fits = tt
-one_held source h (types.Of kind) argument heap fits =
-    subst (λ n. HoldsType h (types.Of kind) (values.Ref (Some (root n)))) (sym (ap root_number fits.is_number)) (roots_are_held source h kind argument heap fits)
-
-all_held : (source : Module) (h : Objects) (params : List LocalDecl) (arguments : List ℤ) → IsHeapOf source h → AllFit source params arguments → AllHold h params (given params arguments)
-all_held source h [] [] heap fits = tt
-all_held source h [] (a ∷ rest) heap fits = absurd fits
-all_held source h (p ∷ params) [] heap fits = absurd fits
-all_held source h (p ∷ params) (a ∷ rest) heap fits = (one_held source h p.ty a heap fits.0, all_held source h params rest heap fits.1)
-
--- an operation begins in a state that fits
-pub begun_fits : (source : Module) (op : OpDecl) (arguments : List ℤ) (h : Objects) (ticket turns : ℕ) → AllFit source op.params arguments → IsHeapOf source h → 0 < ticket → HasTicketsBelow ticket h
-    → Fits (context_of source ticket op) (types_of op) (begun op arguments h turns)
-begun_fits source op arguments h ticket turns fits heap positive below =
-    first_states_fit (context_of source ticket op) op (given op.params arguments) h turns heap positive below (all_held source h op.params arguments heap fits)
 
 -- some kind is a root kind
 root_kind : (kinds : List KindDecl) → list_any is_root kinds ≡ true → (at : ℕ) × (d : KindDecl) × (slice_get kinds at ≡ Some d) × (d.is_root ≡ true)

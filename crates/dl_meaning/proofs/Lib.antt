@@ -1,4 +1,4 @@
-mod First
+pub mod First
 mod Heaps
 pub mod Kept
 pub mod Left

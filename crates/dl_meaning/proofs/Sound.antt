@@ -8,10 +8,10 @@ use Rattle.dl_ir.specs.declared.expressions.Cond.{Cond}
 use Rattle.dl_ir.specs.declared.names.Name.{Name}
 use Rattle.dl_ir.specs.declared.statements.Stmt.{Stmt, Stmt-F, out-Stmt}
 use Rattle.dl_ir.specs.declared.statements.Stmt.TheFolds.{fold_out-Stmt, map-Stmt}
-use Rattle.dl_ir.specs.declared.statements.Stmt.TheVariants.{outs-SetInt, outs-Load, outs-Store, outs-Copy, outs-Null, outs-Follow, outs-New, outs-Link, outs-Cut, outs-If, outs-While, outs-Return}
+use Rattle.dl_ir.specs.declared.statements.Stmt.TheVariants.{outs-SetInt, outs-Load, outs-Store, outs-Copy, outs-Null, outs-Follow, outs-New, outs-Link, outs-Cut, outs-If, outs-While, outs-Emit, outs-Return}
 use Rattle.dl_ir.specs.Meaning.{Context, State, Outcome, Does, step, does, block_does, loops, unless_sealed, ends_with}
 use Rattle.dl_ir.specs.Relation as relation
-use Rattle.dl_ir.specs.Relation.{Runs, RunsBlock, Loops, IsOpen, IsMarked}
+use Rattle.dl_ir.specs.Relation.{Runs, RunsBlock, Loops, IsOpen, IsSealed}
 use Rattle.dl_meaning.specs.Single.{outcome}
 use Rattle.dl_meaning.proofs.Turns.{block_turns}
 
@@ -25,8 +25,8 @@ passed next relation.nothing = refl
 passed next (relation.unsealed there open_mark) = rw (there, open_mark)
 
 -- what is sealed ends
-stopped : {s : State} {name : Name} (next : Outcome) → IsMarked s name → unless_sealed (Some name) s next ≡ ends_with (ends.Sealed name) s
-stopped next marked = rw (marked.there, marked.marked)
+stopped : {s : State} {name : Name} (next : Outcome) → IsSealed s name → unless_sealed (Some name) s next ≡ ends_with (ends.Sealed name) s
+stopped next marked = rw (marked.there, marked.sealed)
 
 -- a number above 0 is not 0
 pub some_turn : (n : ℕ) → 0 < n → (n == 0) ≡ false
@@ -58,6 +58,9 @@ mutual
   sound cx (relation.if_false first truth runs) = layer cx _ _ _ (outs-If _ _ _) ∙ rw truth (sound_block cx runs)
   sound cx (relation.if_fault first second truth) = layer cx _ _ _ (outs-If _ _ _) ∙ rw truth
   sound cx (relation.while {s = s} runs) = layer cx _ _ _ (outs-While _ _) ∙ sound_loop cx runs s.turns (omega arith)
+  sound cx (relation.emit value room) = layer cx _ _ _ (outs-Emit _) ∙ rw (value, lt-leb _ _ room)
+  sound cx (relation.emit_fault value) = layer cx _ _ _ (outs-Emit _) ∙ rw value
+  sound cx (relation.emit_full value full) = layer cx _ _ _ (outs-Emit _) ∙ rw (value, le-leb _ _ full)
   sound cx (relation.return value) = layer cx _ _ _ (outs-Return _) ∙ rw value
   sound cx (relation.return_fault value) = layer cx _ _ _ (outs-Return _) ∙ rw value
 

@@ -1,5 +1,5 @@
 -- A typed statement has an outcome from each state that fits, and the state after it fits.
-use Rattle.std.proofs.Common.{◌≡◌, ℕ, zero, suc, ◌<◌, ◌≤◌, Bool, true, false, List, refl, subst, Option, Some, None, Result, Ok, Err, arith, inl, inr}
+use Rattle.std.proofs.Common.{◌≡◌, ℕ, zero, suc, ◌<◌, ◌≤◌, Bool, true, false, List, length, refl, subst, Option, Some, None, Result, Ok, Err, arith, inl, inr}
 use Rattle.std.proofs.lemmas.Bool.{cases_lt, cases_eq}
 use Rattle.dl_ir.specs.declared.answers.End.{End}
 use Rattle.dl_ir.specs.declared.answers.End.TheVariants as ends
@@ -17,7 +17,7 @@ use Rattle.dl_ir.specs.Relation.{Runs, RunsBlock, Loops, HasField}
 use Rattle.dl_meaning.specs.Fitting.{Fits}
 use Rattle.dl_ir.specs.Typed as typed
 use Rattle.dl_ir.specs.Typed.{IsTyped, IsTypedBlock, FieldsReferToNodes}
-use Rattle.dl_meaning.proofs.Kept.{reference_at, at_reference, number_at, target_at, to_local, to_field, by_open, fits_local, fits_turn, fits_field, fits_new}
+use Rattle.dl_meaning.proofs.Kept.{reference_at, at_reference, number_at, target_at, to_local, to_field, by_open, fits_local, fits_turn, fits_emitted, fits_field, fits_new}
 use Rattle.dl_meaning.proofs.Turns.{block_turns}
 
 -- an outcome of a statement, a block, a loop, of which the state fits
@@ -143,6 +143,12 @@ mutual
   total source ticket allocs locals nodes (typed.while {c} {body} c_is body_is) s fits =
       let loop = total_loop (context source ticket allocs) locals c body (total_block source ticket allocs locals nodes body_is) s.turns s (omega arith) fits in
       reached (relation.while loop.runs) loop.fits
+  total source ticket allocs locals nodes (typed.emit {e} e_is) s fits = by_value (value_of e s.locals)
+      (λ n is. elim (cases_lt (length s.emitted) 16) [
+        | inl room ↦ reached (relation.emit is room) (fits_emitted n fits)
+        | inr full ↦ reached (relation.emit_full is full) fits
+      ])
+      (λ fault is. reached (relation.emit_fault is) fits)
   total source ticket allocs locals nodes (typed.return {e} e_is) s fits = by_value (value_of e s.locals)
       (λ n is. reached (relation.return is) fits)
       (λ fault is. reached (relation.return_fault is) fits)

@@ -33,6 +33,9 @@ mutual
   turns_of (relation.if_false first truth runs) = block_turns runs
   turns_of (relation.if_fault first second truth) = omega arith
   turns_of (relation.while runs) = loop_turns runs
+  turns_of (relation.emit value room) = omega arith
+  turns_of (relation.emit_fault value) = omega arith
+  turns_of (relation.emit_full value full) = omega arith
   turns_of (relation.return value) = omega arith
   turns_of (relation.return_fault value) = omega arith
 

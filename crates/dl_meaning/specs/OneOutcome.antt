@@ -1,3 +1,4 @@
+-- That a typed block has exactly one outcome, and that relation and function agree on it.
 use Rattle.std.specs.Prelude.{◌≡◌, ◌↔◌, ℕ, Option, Some, List, slice_get}
 use Rattle.dl_ir.specs.declared.answers.End.{End}
 use Rattle.dl_ir.specs.declared.modules.OpDecl.{OpDecl}

@@ -8,22 +8,15 @@ use Rattle.dl_ir.specs.declared.modules.OpDecl.{OpDecl}
 use Rattle.dl_ir.specs.CallForms.{AllFit, IsCallOf}
 use Rattle.dl_ir.specs.Checked.{IsChecked}
 use Rattle.dl_ir.specs.Heap.{Objects, IsHeapOf}
-use Rattle.dl_ir.specs.Meaning.{Context, State}
+use Rattle.dl_ir.specs.Meaning.{State}
 use Rattle.dl_ir.specs.Relation.{RunsBlock}
 use Rattle.dl_ir.specs.Typed.{types_of}
-use Rattle.dl_shape.specs.Operation.{first_locals, result_of, operated}
+use Rattle.dl_shape.specs.Operation.{result_of, operated}
+pub use Rattle.dl_shape.specs.Operation.{context_of, begun}
 use Rattle.dl_shape.specs.Replay.{replayed, IsLegal}
 use Rattle.dl_meaning.specs.FirstStates.{HasTicketsBelow}
 use Rattle.dl_meaning.specs.OneOutcome.{HasOneOutcome}
 use Rattle.dl_meaning.specs.Single.{outcome}
-
--- what stays the same while an operation runs with a ticket
-abbrev pub context_of : Module → ℕ → OpDecl → Context
-context_of source ticket op = record { source = source; ticket = ticket; allocs = op.allocs }
-
--- the state in which an operation begins on a heap, with so many turns
-abbrev pub begun : OpDecl → List ℤ → Objects → ℕ → State
-begun op arguments h turns = record { locals = first_locals op arguments; objects = h; turns = turns; made = 0 }
 
 -- an operation of a checked module, given fitting arguments, has exactly one outcome on each heap of the module whose tickets are
 -- below its own, whatever the turns

@@ -1,3 +1,4 @@
+-- That a statement or a block has at most one outcome, which is what the function gives.
 use Rattle.std.specs.Prelude.{◌≡◌, Option, List}
 use Rattle.dl_ir.specs.declared.answers.End.{End}
 use Rattle.dl_ir.specs.declared.expressions.Cond.{Cond}

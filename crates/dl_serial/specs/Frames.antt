@@ -8,7 +8,7 @@ use Rattle.dl_ir.specs.declared.modules.Module.{Module}
 
 -- the state that a frame and a heap are
 abbrev pub state_of : Frame → View → State
-state_of frame heap = record { locals = frame.locals.items; objects = heap.objects; turns = frame.turns; made = frame.made }
+state_of frame heap = record { locals = frame.locals.items; objects = heap.objects; turns = frame.turns; made = frame.made; emitted = frame.emitted }
 
 -- the context that a module and a task are
 abbrev pub context_of : Module → Task → Context

@@ -1,4 +1,4 @@
-use dl_ir::Value;
+use dl_ir::{Emits, Value};
 
 /// What the running operation is given: its ticket, and the number of objects that it may make.
 #[derive(Clone, Copy, Debug)]
@@ -7,10 +7,12 @@ pub struct Task {
     pub allocs: u32,
 }
 
-/// The locals of a running operation, the turns that it has left, and the number of objects that it has made.
+/// The locals of a running operation, the turns that it has left, the number of objects that it has made, and the
+/// numbers that it has emitted.
 #[derive(Drop)]
 pub struct Frame {
     pub locals: Vec<Value>,
     pub turns: u32,
     pub made: u32,
+    pub emitted: Emits,
 }

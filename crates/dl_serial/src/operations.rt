@@ -13,7 +13,7 @@ ghost use Rattle.dl_shape.specs.Operation.{argument_value as value_given, first_
 
 use crate::frames::{Frame, Task};
 use crate::run::run_block;
-use dl_ir::{Answer, Call, End, Heap, LocalDecl, Module, Name, OpDecl, Ty, Value};
+use dl_ir::{Answer, Call, Emits, End, Heap, LocalDecl, Module, Name, OpDecl, Ty, Value};
 use dl_shape::settle;
 use std::alloc::{AllocError, Global};
 
@@ -64,6 +64,7 @@ fn run_body(
         locals: first_locals(alloc, op, args)?,
         turns: op.fuel,
         made: 0,
+        emitted: Emits::new(),
     };
     let task = Task {
         ticket,
@@ -71,7 +72,11 @@ fn run_body(
     };
     let end = run_block(source, task, &op.body, &mut frame, heap).unwrap_or(End::Ok(0));
     let breach = settle(heap);
-    Ok(Answer { end, breach })
+    Ok(Answer {
+        end,
+        breach,
+        emitted: frame.emitted,
+    })
 }
 
 // The locals with which an operation begins: its arguments, then its vars.

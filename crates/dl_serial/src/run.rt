@@ -7,8 +7,8 @@ ghost use Rattle.dl_serial.specs.Growth.{Grows};
 use crate::frames::{Frame, Task};
 use crate::numbers::{evaluate, target_at, test};
 use crate::steps::{
-    end_of_fault, run_copy, run_follow, run_link, run_load, run_new, run_null, run_set_int,
-    run_store,
+    end_of_fault, run_copy, run_emit, run_follow, run_link, run_load, run_new, run_null,
+    run_set_int, run_store,
 };
 use dl_ir::{Block, Cond, End, Heap, Module, Stmt};
 
@@ -55,6 +55,7 @@ pub fn run_stmt(
             Ok(false) => run_block(source, task, no, frame, heap),
         },
         Stmt::While { c, body } => run_loop(source, task, c, body, frame, heap),
+        Stmt::Emit { e } => run_emit(e, frame, heap),
         Stmt::Return { e } => match evaluate(e, &frame.locals) {
             Ok(n) => Some(End::Ok(n)),
             Err(fault) => Some(end_of_fault(fault)),

@@ -45,6 +45,7 @@ fn set_local(frame: &mut Frame, x: u32, value: Value)
     ensures locals { frame.new.locals.items ≡ slice_set frame.old.locals.items x value }
     ensures turns { frame.new.turns ≡ frame.old.turns }
     ensures made { frame.new.made ≡ frame.old.made }
+    ensures emitted { frame.new.emitted ≡ frame.old.emitted }
 {
     if (x as usize) < frame.locals.len() {
         frame.locals[x as usize] = value;
@@ -194,6 +195,22 @@ pub fn run_link(q: u32, f: u32, target: Option<Name>, frame: &Frame, heap: &mut 
                 heap.set_field(name, f as usize, Value::Ref(target));
             }
             sealed
+        }
+    }
+}
+
+/// `emit e;`
+pub fn run_emit(e: &Expr, frame: &mut Frame, heap: &Heap) -> Option<End>
+    ensures gives { (cx : Context) → step cx (Stmt-F.Emit e.now) (state_of frame.old heap.now) ≡ record { state = state_of frame.new heap.now; end = result } }
+    ensures turns { frame.new.turns ≡ frame.old.turns }
+    ensures made { frame.new.made ≡ frame.old.made }
+{
+    match evaluate(e, &frame.locals) {
+        Err(fault) => Some(end_of_fault(fault)),
+        Ok(_) if frame.emitted.is_full() => Some(End::Emits),
+        Ok(n) => {
+            frame.emitted.push(n);
+            None
         }
     }
 }

@@ -4,7 +4,7 @@ ghost use Rattle.dl_ir.specs.Checked.{IsChecked};
 
 use crate::{Served, run_calls};
 use dl_ir::{
-    Answer, Call, Calls, End, Entry, Expr, FieldDecl, Heap, KindDecl, LocalDecl, Module, Op,
+    Answer, Call, Calls, Emits, End, Entry, Expr, FieldDecl, Heap, KindDecl, LocalDecl, Module, Op,
     OpDecl, Stmt, Ty,
 };
 use sqlite_items::{Boxed, Items};
@@ -130,7 +130,11 @@ fn entry(ticket: u64, index: u32, end: End) -> Entry {
         ticket,
         caller: 1,
         index,
-        answer: Answer { end, breach: None },
+        answer: Answer {
+            end,
+            breach: None,
+            emitted: Emits::new(),
+        },
         reserved_at: 0,
         returned: 0,
         returned_at: 0,

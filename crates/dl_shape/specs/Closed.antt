@@ -1,3 +1,4 @@
+-- Modules whose serial runs end each operation in a forest.
 use Rattle.std.specs.Prelude.{◌≡◌, ◌+◌, ℕ, false, Some, List, [], ◌∷◌, slice_get, All, IfSome}
 use Rattle.std.specs.FinMap as finite
 use Rattle.dl_ir.specs.declared.names.Name.{Name}

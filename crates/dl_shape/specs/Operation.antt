@@ -1,4 +1,5 @@
-use Rattle.std.specs.Prelude.{◌++◌, ℕ, ℤ, pos, negsuc, Option, Some, None, List, map, slice_get}
+-- What an operation gives: its answer, and the heap that it leaves.
+use Rattle.std.specs.Prelude.{◌++◌, ℕ, ℤ, pos, negsuc, Option, Some, None, List, [], map, slice_get}
 use Rattle.std.specs.List.{zip}
 use Rattle.dl_ir.specs.declared.names.Value.{Value}
 use Rattle.dl_ir.specs.declared.names.Value.TheVariants as values
@@ -12,7 +13,7 @@ use Rattle.dl_ir.specs.declared.answers.End.{End}
 use Rattle.dl_ir.specs.declared.answers.End.TheVariants as ends
 use Rattle.dl_ir.specs.declared.answers.Answer.{Answer}
 use Rattle.dl_ir.specs.Heap.{Objects, root, blank}
-use Rattle.dl_ir.specs.Meaning.{Outcome, block_does}
+use Rattle.dl_ir.specs.Meaning.{Context, State, Outcome, block_does}
 use Rattle.dl_shape.specs.Settling.{settled, breach_of}
 
 -- the number of a root that an argument gives
@@ -43,18 +44,25 @@ end_of (Some early) = early
 -- the locals are gone, and the heap is settled
 abbrev pub result_of : Outcome → Result
 result_of outcome = record {
-  answer = record { end = end_of outcome.end; breach = breach_of outcome.state.objects };
+  answer = record { end = end_of outcome.end; breach = breach_of outcome.state.objects; emitted = outcome.state.emitted };
   objects = settled outcome.state.objects;
 }
 
+-- what stays the same while an operation runs with a ticket
+abbrev pub context_of : Module → ℕ → OpDecl → Context
+context_of source ticket op = record { source = source; ticket = ticket; allocs = op.allocs }
+
+-- the state in which an operation begins on a heap, with so many turns: nothing is made, and no number emitted
+abbrev pub begun : OpDecl → List ℤ → Objects → ℕ → State
+begun op arguments heap turns = record { locals = first_locals op arguments; objects = heap; turns = turns; made = 0; emitted = [] }
+
 -- how the body of an operation ends, run on a heap with a ticket and arguments
 abbrev pub body_outcome : Module → Objects → ℕ → List ℤ → OpDecl → Outcome
-body_outcome source heap ticket arguments op = block_does (record { source = source; ticket = ticket; allocs = op.allocs }) op.body
-    (record { locals = first_locals op arguments; objects = heap; turns = op.fuel; made = 0 })
+body_outcome source heap ticket arguments op = block_does (context_of source ticket op) op.body (begun op arguments heap op.fuel)
 
 -- where the module has no such operation, nothing is done
 abbrev pub operated_where : Module → Objects → ℕ → List ℤ → Option OpDecl → Result
-operated_where source heap ticket arguments None = record { answer = record { end = ends.Ok (pos 0); breach = None }; objects = heap }
+operated_where source heap ticket arguments None = record { answer = record { end = ends.Ok (pos 0); breach = None; emitted = [] }; objects = heap }
 operated_where source heap ticket arguments (Some op) = result_of (body_outcome source heap ticket arguments op)
 
 -- what a call gives, run on a heap with a ticket

@@ -1,3 +1,4 @@
+-- The replay of a history, and which histories are legal.
 use Rattle.std.specs.Prelude.{◌≡◌, ◌+◌, ℕ, Option, Some, None, List, [], ◌∷◌, fold, max}
 use Rattle.std.specs.FinMap as finite
 use Rattle.dl_ir.specs.declared.names.Name.{Name}

@@ -1,3 +1,4 @@
+-- Trimming and settling a heap.
 use Rattle.std.specs.Prelude.{◌≡◌, ◌||◌, ℕ, false, zero, suc, Option, Some, None, map}
 use Rattle.std.specs.FinMap as finite
 use Rattle.dl_ir.specs.declared.names.Name.{Name}

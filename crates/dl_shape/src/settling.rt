@@ -1,3 +1,5 @@
+//! What is removed and what is sealed when an operation has ended.
+
 ghost use Rattle.std.specs.Prelude.{◌≡◌};
 ghost use Rattle.dl_shape.specs.Settling.{trim, sealed_heap, settled, breach_of, OrderDoesNotMatter};
 

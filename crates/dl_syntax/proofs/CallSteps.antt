@@ -6,7 +6,8 @@ use Rattle.dl_ir.specs.declared.calls.Call.{Call}
 use Rattle.dl_syntax.specs.declared.calls.CallsFault.{CallsFault}
 use Rattle.dl_syntax.specs.declared.calls.CallsFault.TheVariants.{NotAscii, BadByte, TooMany, NoOp, ArgCount, NotNumber, NoRoot, Memory}
 use Rattle.dl_syntax.specs.Line.{is_feed, lines_of}
-use Rattle.dl_syntax.specs.Calls.{call_of_line, with_call, after_line, calls_from, Gives}
+use Rattle.dl_syntax.specs.Calls.{call_of_line, after_line, calls_from, Gives}
+use Rattle.dl_syntax.specs.Rules.{with_call}
 use Rattle.dl_syntax.proofs.WordCuts.{piece_len, behind, pieces_cut}
 
 -- the lines behind a line feed are those of the bytes behind it

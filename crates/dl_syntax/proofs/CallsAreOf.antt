@@ -41,7 +41,7 @@ fits_type : (source : Module) (ty : Ty) (n : ℤ) → fits source ty n ≡ true 
 fits_type source Int n h = tt
 fits_type source (Of k) n h = root_of source k (slice_get source.kinds k) n refl h
 
-fits_all : (source : Module) (params : List LocalDecl) (ns : List ℤ) → all_fit source params ns ≡ true → AllFit source params ns
+pub fits_all : (source : Module) (params : List LocalDecl) (ns : List ℤ) → all_fit source params ns ≡ true → AllFit source params ns
 fits_all source [] [] h = tt
 fits_all source [] (n ∷ ns) h = cc
 fits_all source (p ∷ ps) [] h = cc

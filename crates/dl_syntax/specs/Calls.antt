@@ -1,5 +1,5 @@
--- Operation files: which calls of a module a text says, and the first fault of a text that says none.
-use Rattle.std.specs.Prelude.{◌≡◌, ◌≢◌, ℕ, ◌+◌, Bool, true, false, ◌&&◌, ◌==◌, nat_le, nat_lt, if◌then◌else◌, List, [], ◌∷◌, ◌++◌, length, slice_get, position, find, Option, Some, None, Result, Ok, Err, ℤ, pos}
+-- What an operation file says as a function of its text, in the order in which the reader goes through it. `Rules` has the same as rules.
+use Rattle.std.specs.Prelude.{◌≡◌, ◌≢◌, ℕ, ◌+◌, Bool, true, false, ◌&&◌, ◌==◌, nat_le, nat_lt, if◌then◌else◌, List, [], ◌∷◌, length, slice_get, position, find, Option, Some, None, Result, Ok, Err, ℤ, pos}
 use Rattle.std.specs.Str.{bytes_eq}
 use Rattle.dl_ir.specs.declared.modules.Ty.{Ty}
 use Rattle.dl_ir.specs.declared.modules.Ty.TheVariants.{Int, Of}
@@ -10,7 +10,8 @@ use Rattle.dl_ir.specs.declared.modules.Module.{Module}
 use Rattle.dl_ir.specs.declared.calls.Call.{Call}
 use Rattle.dl_syntax.specs.declared.calls.CallsFault.{CallsFault}
 use Rattle.dl_syntax.specs.declared.calls.CallsFault.TheVariants.{NotAscii, BadByte, TooMany, NoOp, ArgCount, NotNumber, NoRoot, Memory}
-use Rattle.dl_syntax.specs.Line.{is_wrong, lines_of, words_of, before_comment, numbers_of}
+use Rattle.dl_syntax.specs.Line.{is_wrong, words_of, before_comment, numbers_of}
+use Rattle.dl_syntax.specs.Rules.{with_call}
 
 -- an argument is the number of a root of the kind
 abbrev pub is_root_of : Option KindDecl → ℤ → Bool
@@ -69,11 +70,6 @@ call_unless_wrong source line before text None = call_of_words source line befor
 abbrev pub call_of_line : Module → ℕ → ℕ → List ℕ → Result (Option Call) CallsFault
 call_of_line source line before text = call_unless_wrong source line before text (find is_wrong text)
 
--- the calls before, and behind them the one that a line says, if it says one
-abbrev pub with_call : List Call → Option Call → List Call
-with_call calls None = calls
-with_call calls (Some call) = calls ++ call ∷ []
-
 -- what follows a line: its fault, or what the lines behind it say
 abbrev pub after_line : List Call → Result (Option Call) CallsFault → (List Call → Result (List Call) CallsFault) → Result (List Call) CallsFault
 after_line calls (Err fault) next = Err fault
@@ -84,14 +80,6 @@ abbrev pub calls_from : Module → ℕ → List Call → List (List ℕ) → Res
 calls_from source line calls [] = Ok calls
 calls_from source line calls (text ∷ rest) =
     after_line calls (call_of_line source line (length calls) text) (λ next. calls_from source (line + 1) next rest)
-
--- the text is the operation file of the module with these calls
-abbrev pub IsCallsFile : Module → List ℕ → List Call → Type 0
-IsCallsFile source text calls = calls_from source 1 [] (lines_of text) ≡ Ok calls
-
--- the text is no operation file of the module, and this is its first fault
-abbrev pub IsCallsFault : Module → List ℕ → CallsFault → Type 0
-IsCallsFault source text fault = calls_from source 1 [] (lines_of text) ≡ Err fault
 
 -- what a reader answers that may run out of memory at any point: the outcome, or that
 abbrev pub Gives : {A : Type 0} → Result A CallsFault → Result A CallsFault → Type 0

@@ -1,2 +1,4 @@
+-- What contracts on operation files speak of.
 pub mod Line
+pub mod Rules
 pub mod Calls

@@ -1,3 +1,5 @@
+//! The faults of operation files.
+
 use std::alloc::AllocError;
 use thiserror::Error;
 

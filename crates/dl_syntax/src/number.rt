@@ -1,3 +1,5 @@
+//! The numbers that words say.
+
 ghost use Rattle.std.specs.Prelude.{◌≡◌, ◌≤◌, ◌^◌, ◌-◌, IfOk, pos, neg_ℤ};
 ghost use Rattle.dl_text.specs.Bytes.{is_digit};
 ghost use Rattle.dl_syntax.specs.Line.{digits_of, at_most, number_of, numbers_of, words_of};

@@ -1,10 +1,13 @@
+//! The calls that an operation file says, or its first fault.
+
 ghost use Rattle.std.specs.Prelude.{◌≡◌, ◌≢◌, ◌≤◌, ◌<◌, ◌+◌, ◌^◌, List, length, slice_get, find, IfOk, IfErr, IfSome, MatchResult, OnOk, []};
 ghost use Rattle.dl_ir.specs.declared.calls.Call.{Call as CallOf};
 ghost use Rattle.dl_ir.specs.CallForms.{AreCallsOf};
 ghost use Rattle.dl_syntax.specs.declared.calls.CallsFault.{CallsFault as FaultOf};
 ghost use Rattle.dl_syntax.specs.Line.{is_wrong, words_of, lines_of};
 ghost use Rattle.dl_syntax.specs.Calls as spec;
-ghost use Rattle.dl_syntax.specs.Calls.{Gives, IsCallsFile, IsCallsFault};
+ghost use Rattle.dl_syntax.specs.Calls.{Gives};
+ghost use Rattle.dl_syntax.specs.Rules.{IsCallsFile, IsCallsFault, with_call};
 
 use crate::calls::CallsFault;
 use crate::number::numbers;
@@ -157,7 +160,7 @@ fn call_of_line(
 
 /// Adds the call of a line, if it says one.
 fn add_call(calls: &mut Calls, call: Option<Call>) -> Result<(), AllocError>
-    ensures { OnOk result (calls.new ≡ spec.with_call calls.old call) }
+    ensures { OnOk result (calls.new ≡ with_call calls.old call) }
 {
     match call {
         Some(call) => calls.push(call),

@@ -1,3 +1,5 @@
+//! Tests of operation files and their faults.
+
 ghost use Rattle.std.specs.Prelude.{◌*◌, ◌≤◌, length, IfOk};
 
 use crate::{CallsFault, read_calls};

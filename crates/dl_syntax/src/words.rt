@@ -1,3 +1,5 @@
+//! Lines, and the words of a line.
+
 ghost use Rattle.std.specs.Prelude.{◌≡◌, ◌<◌, ◌≤◌, ◌+◌, ◌∷◌, [], ℕ, length, not, drop, take, filter, MatchOption};
 ghost use Rattle.std.specs.List.{prefix_len};
 ghost use Rattle.dl_text.specs.Bytes.{is_blank};

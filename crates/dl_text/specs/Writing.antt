@@ -1,3 +1,4 @@
+-- What a buffer holds, and what becomes of a text that is put into it.
 use Rattle.std.specs.Prelude.{◌≡◌, ℕ, ◌≤◌, Bool, true, false, List, [], ◌++◌, Result, OnOk, OnErr}
 use Rattle.dl_io.specs.Faults.{Rose}
 use Rattle.dl_io.specs.Taken.{Taken, Took}

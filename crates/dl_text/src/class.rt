@@ -1,3 +1,4 @@
+//! The classes of the bytes of a text.
 ghost use Rattle.std.specs.Prelude.{◌≡◌};
 ghost use Rattle.dl_text.specs.Bytes.{class_of};
 

@@ -1,3 +1,4 @@
+//! The buffer through which a text is written to a sink.
 ghost use Rattle.std.specs.Prelude.{◌≡◌, ℕ, ◌+◌, ◌-◌, ◌≤◌, false, [], ◌++◌, length, is_ok, if◌then◌else◌};
 ghost use Rattle.dl_text.specs.Writing.{nothing, broken, Buffered, Passes, Breaks, Puts};
 

@@ -1,3 +1,4 @@
+//! What comes out of the buffer, whole and where the sink fails.
 use crate::{Failed, Out};
 use dl_io::MemSink;
 use std::str;

@@ -1,3 +1,4 @@
+//! The tokens of a text, found byte by byte.
 ghost use Rattle.std.specs.Prelude.{◌≡◌, ◌≢◌, ℕ, ◌+◌, ◌≤◌, ◌<◌, length, List, IfOk, IfErr, MatchResult, IfSome, Option, if◌then◌else◌, nat_le, Bool};
 ghost use Rattle.std.specs.List.{prefix_len, take_while};
 ghost use Rattle.dl_text.specs.Bytes.{is_digit, is_word, is_comment, value, AllAre};

@@ -1,3 +1,4 @@
+//! Texts with their tokens, and texts with their first fault.
 use crate::scan::tokens;
 use crate::token::{TextFault, Token, TokenKind, Tokens};
 use std::alloc::Global;

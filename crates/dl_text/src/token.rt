@@ -1,3 +1,4 @@
+//! Tokens, with their places and lines, and the faults of texts.
 use sqlite_items::Items;
 use thiserror::Error;
 

@@ -1,7 +1,7 @@
 use Rattle.std.proofs.Common.{ap, subst, ◌∙◌}
 use Rattle.dl_grammar.specs.Grammar.{finish}
 use Rattle.dl_grammar.specs.Readers as read
-use Rattle.dl_grammar.specs.Texts.{lexemes_of, text_fault, Answers}
+use Rattle.dl_grammar.specs.Texts.{lexemes_in, lexemes_of, text_fault, Answers}
 use Rattle.dl_grammar.proofs.Whole.{whole_found, whole_only, whole_fault, whole_only_fault, text_only_fault}
 use Rattle.dl_grammar.proofs.Limited.{all_in_limits}
 use Rattle.dl_grammar.proofs.module.read_module.Goals as goal
@@ -17,7 +17,7 @@ returns-in-Err-clause-only_fault c = λ g h real.
 -- what was made of the lexemes was made of those of the tokens
 answers : (c : After-read_lexemes) → Answers (finish (read.module_text (lexemes_of c.args.bytes.now c.in-Ok.found))) (lexemes_of c.args.bytes.now c.in-Ok.found) c.read_lexemes.result
 answers c =
-    subst (λ ls. Answers (finish (read.module_text ls)) ls c.read_lexemes.result) (c.as_slice-2.ensures ∙ c.in-Ok-lexemes.ensures ∙ ap (lexemes_of c.args.bytes.now) c.as_slice.ensures) c.read_lexemes.ensures
+    subst (λ ls. Answers (finish (read.module_text ls)) ls c.read_lexemes.result) (c.as_slice.ensures ∙ c.in-Ok-lexemes.ensures ∙ ap (λ v. lexemes_in v c.args.bytes.now c.as_slice-scanned.result.now) c.version_of-version.ensures ∙ ap (lexemes_of c.args.bytes.now) c.as_slice-scanned.ensures) c.read_lexemes.ensures
 
 pub returns-clause-found : goal.returns-clause-found
 returns-clause-found c = whole_found c.args.bytes.now c.in-Ok.found c.in-Ok.ensures.found c.read_lexemes.result (answers (goal.at.returns-clause-found c).After-read_lexemes)

@@ -6,4 +6,4 @@ use Rattle.dl_history.proofs.operations.put_history_lines.Given as goal
 
 abbrev pub invariant-entries : goal.invariant-entries
 invariant-entries g l = PutSoFar (g.K.Sink.taken l.initial.sink) (g.K.Sink.taken l.sink) l.initial.out l.out
-    (flat_map (history_line l.source l.files) l.entries) (flat_map (history_line l.source l.files) (drop l.entry-index l.entries))
+    (flat_map (history_line l.source l.files) l.entries) (flat_map (history_line l.source l.files) (drop l.i l.entries))

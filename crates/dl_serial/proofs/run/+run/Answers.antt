@@ -1,7 +1,7 @@
 use Rattle.std.proofs.Common.{arith, sym, ap, ◌∙◌, Ok}
 use Rattle.dl_serial.specs.Frames.{state_of, context_of}
 use Rattle.dl_ir.specs.Meaning.{block_does}
-use Rattle.dl_ir.specs.declared.statements.Stmt.TheVariants.{outs-SetInt, outs-Load, outs-Store, outs-Copy, outs-Null, outs-Follow}
+use Rattle.dl_ir.specs.declared.statements.Stmt.TheVariants.{outs-SetInt, outs-Load, outs-Store, outs-Copy, outs-Null, outs-Follow, outs-Emit}
 use Rattle.dl_serial.proofs.Counts.{grows_on}
 use Rattle.dl_serial.proofs.Levels.{one_level}
 use Rattle.dl_serial.proofs.Turns.{turn, is_none_of}
@@ -39,3 +39,6 @@ run_stmt-returns-in-Null-clause-gives t c = let cx = context_of c.args.source.no
 
 pub run_stmt-returns-in-Follow-clause-gives : goal.run_stmt-returns-in-Follow-clause-gives
 run_stmt-returns-in-Follow-clause-gives t c = let cx = context_of c.args.source.now c.args.task in rw c.in-Follow.is (one_level cx _ _ _ (outs-Follow _ _ _) ∙ c.run_follow.ensures.gives cx)
+
+pub run_stmt-returns-in-Emit-clause-gives : goal.run_stmt-returns-in-Emit-clause-gives
+run_stmt-returns-in-Emit-clause-gives t c = let cx = context_of c.args.source.now c.args.task in rw c.in-Emit.is (one_level cx _ _ _ (outs-Emit _) ∙ c.run_emit.ensures.gives cx)

@@ -16,5 +16,5 @@ returns-clause-sound c = λ h.
     let s = sound_path c.args.self.now.fails.items c.args.self.now.files.items c.args.path.now h in
     let same_files = ap (λ files. files.files.items) c.fails_now-fails.ensures.same in
     let found = rw (c.deref.ensures.value, same_files) at c.reading_at-self.ensures.found in
-    let some = found (c.fails_now-fails.ensures.fails s.0) s.1 in
+    let some = found (c.fails_now-fails.ensures.reliable s.0) s.1 in
     absurd (cc)

@@ -1,0 +1,43 @@
+//! Walks through tables.
+
+ghost use Rattle.std.specs.Prelude.{◌≡◌};
+
+use crate::names::Name;
+use std::marker::Model;
+
+/// The names of a table with their values, in the order of names.
+#[derive(Drop)]
+pub struct TableIter<'a, V> {
+    pub(crate) left: &'a [(Name, Option<V>)],
+}
+
+impl<'a, V> Model for TableIter<'a, V> {
+    ghost use Rattle.std.specs.Prelude.{List};
+    ghost use Rattle.dl_ir.specs.declared.names.Name.{Name};
+    ghost use Rattle.dl_ir.specs.Places.{present};
+
+    ghost Value = { List (Name × V) };
+
+    ghost view = { λ iter. present iter.left.now };
+}
+
+impl<'a, V> Iterator for TableIter<'a, V> {
+    ghost use Rattle.std.specs.Prelude.{length};
+    ghost use Rattle.std.specs.Iterator.{YieldsFirstBy, at_most};
+
+    type Item = (Name, &'a V);
+
+    ghost next_gives = { YieldsFirstBy (λ entry. (entry.0, entry.1.now)) (λ iter. iter) };
+
+    ghost remaining = { λ iter. at_most (length iter) };
+
+    fn next(&mut self) -> Option<(Name, &'a V)> {
+        while let [first, rest @ ..] = self.left {
+            self.left = rest;
+            if let Some(value) = &first.1 {
+                return Some((first.0, value));
+            }
+        }
+        None
+    }
+}
