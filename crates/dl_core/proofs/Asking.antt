@@ -1,11 +1,10 @@
 -- What a call takes before it enters.
-use Rattle.std.proofs.Common.{◌≡◌, ◌<◌, ◌≤◌, ℕ, cond, true, false, Option, Some, None, refl, sym, ap, ◌∙◌, arith}
-use Rattle.std.specs.Prelude.{slice_get, get_or, nat_lt, List, []}
+use Rattle.std.proofs.Common.{◌≡◌, ◌<◌, ◌≤◌, ℕ, None, ap, ◌∙◌, arith}
+use Rattle.std.specs.Prelude.{slice_get, get_or, List, []}
 use Rattle.std.proofs.lemmas.Bool.Decides.{nat_tests}
 use Rattle.std.specs.Prelude.{unwrap_or}
 use Rattle.std.proofs.lemmas.Option.{unwrap_or-slice_get}
-use Rattle.dl_core.specs.declared.dues.Due.{Due}
-use Rattle.dl_core.specs.declared.dues.Due.TheVariants.{Reserves, TakesRoot, Enters}
+use Rattle.dl_core.specs.declared.dues.Due.TheVariants.{Reserves}
 use Rattle.dl_core.specs.Plans.{Plan, allocs_of, roots_of}
 use Rattle.dl_core.specs.Frames.{Frame}
 use Rattle.dl_core.specs.LocalSteps.{next_called, next_root}

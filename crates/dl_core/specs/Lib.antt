@@ -2,7 +2,6 @@ pub mod Heaps
 pub mod Plans
 pub mod Frames
 pub mod Rooms
-pub mod Shown
 pub mod GoingOn
 pub mod LocalSteps
 pub mod Codes
@@ -10,6 +9,8 @@ pub mod Events
 pub mod Steps
 pub mod Core
 pub mod Accounts
+pub mod Arguments
+pub mod Shown
 pub mod Reached
 pub mod Reach
 pub mod Changes
