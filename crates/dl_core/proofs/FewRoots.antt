@@ -21,7 +21,7 @@ few_put_root : (ty : Ty) (argument : ℤ) (ms : List ℕ) → length (put_root t
 few_put_root Int argument ms = omega arith
 few_put_root (Of kind) argument ms = few_put_in (root_number argument) ms
 
-pub few_roots : (params : List LocalDecl) (args : List ℤ) → length (roots_among (zip params args)) ≤ length params
+pub few_roots : (params : List LocalDecl) (args : List ℤ) → length (roots_among (zip params args)) ≤ length args
 few_roots [] args = omega arith
 few_roots (p ∷ params) [] = omega arith
 few_roots (p ∷ params) (a ∷ args) = let rest = few_roots params args in omega (arith, rest, few_put_root p.ty a (roots_among (zip params args)))

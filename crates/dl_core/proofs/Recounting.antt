@@ -84,7 +84,7 @@ can_recounted code old mid before lost gained field rooms is call locals loose b
     let mid_locals : (shown mid).locals ≡ (shown old).locals = ap (λ (f : Frame). f.locals) is ∙ alike.1 ∙ locals in
     can_with code old mid rooms (ap (λ (f : Frame). f.call) is ∙ alike.0 ∙ call) (subst (λ l. length l < 2 ^ 32) (sym mid_locals) can.locals)
     (subst (λ b. AreTidy b (shown mid).loose) (sym mid_book) (subst (AreTidy (raised gained (lowered lost (shown old).book))) (sym mid_loose)
-      (tidy_recounted (λ fields. fields + 1) gained (lowered lost (shown old).book) (shown old).loose (tidy_recounted (λ fields. fields - 1) lost (shown old).book (shown old).loose can.tidy))))
+    (tidy_recounted (λ fields. fields + 1) gained (lowered lost (shown old).book) (shown old).loose (tidy_recounted (λ fields. fields - 1) lost (shown old).book (shown old).loose can.tidy))))
     (subst (λ n. n ≤ old.loose.room) (sym (ap finite.len mid_book ∙ recounted_len (λ fields. fields + 1) gained (lowered lost (shown old).book) ∙ recounted_len (λ fields. fields - 1) lost (shown old).book)) can.room)
     can
 

@@ -11,7 +11,7 @@ ghost use Rattle.dl_core.specs.Accounts.{shown_account};
 ghost use Rattle.dl_core.specs.Arguments.{CanHold, AllHeld, HoldsCall};
 ghost use Rattle.dl_core.specs.Events.{begun as begins, entered as enters};
 ghost use Rattle.dl_core.specs.Frames.{at_rest};
-ghost use Rattle.dl_core.specs.Plans.{Plan};
+ghost use Rattle.dl_core.specs.Plans.{Plan, locals_of, fuel_of};
 ghost use Rattle.dl_core.specs.Shown.{shown, memory_of, rooms_of, CanGoOn, HasTurns};
 
 use crate::frames::Frame;
@@ -93,12 +93,30 @@ fn give_arguments(params: &[LocalDecl], args: &[i64], locals: &mut Row<Value>)
 fn first_locals(op: &OpDecl, args: &[i64], locals: &mut Row<Value>)
     requires held { AllHeld op.now.params args.now }
     requires room { length op.now.params + length op.now.vars ≤ locals.old.room }
-    ensures { locals.new ≡ record locals.old { items = locals_first op.now args.now } }
+    ensures locals { locals.new ≡ record locals.old { items = locals_first op.now args.now } }
+    ensures few { length locals.new.items ≤ length op.now.params + length op.now.vars }
 {
     locals.clear();
     give_arguments(op.params.as_slice(), args, locals);
     for var in op.vars.as_slice() {
         locals.push(first_value(var.ty));
+    }
+}
+
+// The locals and the turns with which the operation begins.
+fn prepare(code: &Code, frame: &mut Frame)
+    requires held { HoldsCall code.now (shown frame.old).call }
+    requires room { 32 ≤ frame.old.locals.room }
+    ensures shown { (plan : Plan) → plan.code ≡ code.now → shown frame.new ≡ record (shown frame.old) { locals = locals_of plan (shown frame.old).call; turns = fuel_of plan (shown frame.old).call } }
+    ensures few { length frame.new.locals.items ≤ 32 }
+    ensures rooms { rooms_of frame.new ≡ rooms_of frame.old }
+{
+    match op_of(code, frame.op) {
+        Some(op) => {
+            frame.turns = op.fuel;
+            first_locals(op, frame.args.as_slice(), &mut frame.locals);
+        }
+        None => unreachable!(),
     }
 }
 
@@ -113,11 +131,6 @@ pub fn entered(code: &Code, ticket: u64, frame: &mut Frame)
 {
     frame.stage = Stage::Running;
     frame.ticket = ticket;
-    frame.locals.clear();
-    frame.turns = 0;
-    if let Some(op) = op_of(code, frame.op) {
-        frame.turns = op.fuel;
-        first_locals(op, frame.args.as_slice(), &mut frame.locals);
-    }
+    prepare(code, frame);
     make_ready(code, frame);
 }

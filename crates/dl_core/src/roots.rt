@@ -56,7 +56,7 @@ fn put_root(ty: Ty, argument: i64, roots: &mut Row<u32>)
 /// Puts the distinct roots among arguments into an empty list, in rising order.
 pub fn put_roots(params: &[LocalDecl], args: &[i64], roots: &mut Row<u32>)
     requires held { AllHeld params.now args.now }
-    requires room { length params.now ≤ roots.old.room }
+    requires room { length args.now ≤ roots.old.room }
     requires none { roots.old.items ≡ [] }
     ensures { roots.new ≡ record roots.old { items = roots_among (zip params.now args.now) } }
 {

@@ -7,6 +7,6 @@ use Rattle.dl_core.proofs.calls.first_locals.Given as goal
 abbrev pub invariant-loop-var : goal.invariant-loop-var
 invariant-loop-var l = record {
   room : l.locals.room ≡ l.initial.locals.room;
-  few : length l.locals.items + length (drop l.var-index l.var-items) ≤ l.locals.room;
+  few : length l.locals.items + length (drop l.var-index l.var-items) ≤ length l.op.params + length l.op.vars;
   items : l.locals.items ++ map (λ (var : LocalDecl). blank var.ty) (drop l.var-index l.var-items) ≡ first_locals l.op l.args;
 }
