@@ -4,7 +4,7 @@ ghost use Rattle.dl_ir.specs.References.{refers_to as refers_in, target_in as ta
 
 use crate::lists::Row;
 use crate::stages::{Booked, Stage};
-use dl_ir::{Entry, Name, Refusal, Table, Value};
+use dl_ir::{Emits, Entry, Name, Refusal, Table, Value};
 
 /// What each caller has of its own, and what the pool keeps of it.
 #[derive(Drop)]
@@ -31,6 +31,8 @@ pub struct Frame {
     pub turns: u32,
     /// How many objects the operation has made.
     pub made: u32,
+    /// The numbers that the operation has given out.
+    pub emitted: Emits,
     /// Places that are reserved and not used.
     pub spares: u32,
     pub book: Table<Booked>,

@@ -8,7 +8,7 @@ ghost use Rattle.dl_core.specs.Shown.{shown, memory_of};
 
 use crate::frames::Frame;
 use crate::stages::Stage;
-use dl_ir::{Answer, End, Entry, Refusal};
+use dl_ir::{Answer, Emits, End, Entry, Refusal};
 
 // No call is in hand.
 fn rest(frame: &mut Frame)
@@ -29,6 +29,7 @@ fn rest(frame: &mut Frame)
     frame.hand = None;
     frame.turns = 0;
     frame.made = 0;
+    frame.emitted = Emits::new();
     frame.spares = 0;
     frame.loose.clear();
     frame.cursor = 0;
@@ -60,6 +61,7 @@ pub fn entry_of(caller: u32, end: End, returned_at: u64, frame: &Frame) -> Entry
         answer: Answer {
             end,
             breach: frame.breach,
+            emitted: frame.emitted,
         },
         reserved_at: frame.reserved_at,
         returned: frame.spares,
@@ -78,7 +80,8 @@ pub fn finished(caller: u32, end: End, returned_at: u64, frame: &mut Frame) -> E
     ensures memory { memory_of frame.new ≡ memory_of frame.old }
 {
     let entry = entry_of(caller, end, returned_at, frame);
-    frame.entries.push(entry);
+    let kept = entry;
+    frame.entries.push(kept);
     frame.reserved_at = 0;
     rest(frame);
     entry

@@ -10,7 +10,7 @@ use Rattle.dl_ir.specs.declared.names.Value.TheVariants.{Ref}
 use Rattle.dl_ir.specs.Evaluation.{Number, Truth, value_of, holds_of}
 use Rattle.dl_ir.specs.References.{target_in}
 use Rattle.dl_instr.specs.declared.steps.Step.{Step}
-use Rattle.dl_instr.specs.declared.steps.Step.TheVariants.{Read, Want, Set, Drop, Make, Eval, Write, Test, Jump, Give}
+use Rattle.dl_instr.specs.declared.steps.Step.TheVariants.{Read, Want, Set, Drop, Make, Eval, Write, Emit, Test, Jump, Give}
 use Rattle.dl_instr.specs.declared.steps.Origin.TheVariants as origins
 use Rattle.dl_core.specs.declared.stages.Booked.{Booked}
 use Rattle.dl_core.specs.declared.stages.Stage.{Stage}
@@ -61,6 +61,7 @@ module _ (plan : Plan) (frame : Frame) where
   at_a_step (Some (Make kind)) = elim (nat_le (allocs_of plan frame.call) frame.made) as (λ b. Moving (if b then Goes (ended ends.Quota frame) else Stops (Makes (next_name frame) kind))) [ true ↦ tt | false ↦ at_moves (next_name frame) ]
   at_a_step (Some (Eval value)) = on_a_number (value_of value frame.locals) _
   at_a_step (Some (Write local field content)) = on_an_object (target_at frame local) _ at_moves
+  at_a_step (Some Emit) = elim (nat_le 16 (length frame.emitted)) as (λ b. Moving (if b then Goes (ended ends.Emits frame) else Goes (given_out frame))) [ true ↦ tt | false ↦ tt ]
   at_a_step (Some (Test c false place)) = on_a_truth (holds_of c frame.locals) place frame
   at_a_step (Some (Test c true place)) =
       elim (frame.turns == 0) as (λ b. Moving (if b then Goes (ended ends.Fuel frame) else on_truth (holds_of c frame.locals) place (record frame { turns = frame.turns - 1 }))) [
