@@ -1,5 +1,5 @@
 -- A caller that has entered always has a step that comes next.
-use Rattle.std.proofs.Common.{◌≡◌, ℕ, ℤ, ◌-◌, true, false, List, [], ◌∷◌, Option, Some, None, refl}
+use Rattle.std.proofs.Common.{◌≡◌, ℕ, ℤ, ◌-◌, true, false, List, [], ◌∷◌, Option, Some, None, refl, length}
 use Rattle.std.specs.Prelude.{slice_get, nat_lt, nat_le, ◌==◌, ◌&&◌, ◌||◌, Ok, Err, if◌then◌else◌}
 use Rattle.std.specs.FinMap as finite
 use Rattle.dl_ir.specs.declared.answers.End.{End}
@@ -19,7 +19,7 @@ use Rattle.dl_core.specs.Plans.{Plan, steps_of, allocs_of, reference_from}
 use Rattle.dl_core.specs.Frames.{Frame, advanced, ended, target_at, target_in_hand, has_booked}
 use Rattle.dl_core.specs.declared.dues.Due.{Due}
 use Rattle.dl_core.specs.declared.dues.Due.TheVariants.{Takes, Writes, Makes, LetsGo}
-use Rattle.dl_core.specs.LocalSteps.{next_name, Next, Goes, Stops, on_number, on_object, on_truth, on_wanted, next_step, next_target, next_value, next_field, next_loose, next_held, next_local, next_stage, next_after, next, step_in, due_in, due, first_referring, IsReady}
+use Rattle.dl_core.specs.LocalSteps.{given_out, next_name, Next, Goes, Stops, on_number, on_object, on_truth, on_wanted, next_step, next_target, next_value, next_field, next_loose, next_held, next_local, next_stage, next_after, next, step_in, due_in, due, first_referring, IsReady}
 use Rattle.dl_core.specs.Steps.{Nowhere, Inside, At}
 use Rattle.dl_core.specs.Core.{aim_of}
 
