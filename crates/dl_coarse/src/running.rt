@@ -75,7 +75,7 @@ impl<M: Machine> Coarse<M> {
             },
             Ok(answer) => {
                 pass.busy = false;
-                if let Progress::Done { entry } = answer {
+                if let Progress::Done { entry } = &answer {
                     pass.front = pass.front.max(entry.ticket);
                 }
                 answer

@@ -13,18 +13,18 @@ use Rattle.dl_ir.specs.declared.names.Value.TheVariants as values
 use Rattle.dl_ir.specs.declared.objects.Obj.{Obj}
 use Rattle.dl_ir.specs.declared.statements.Stmt.{Stmt, Stmt-F, out-Stmt}
 use Rattle.dl_ir.specs.declared.statements.Stmt.TheFolds.{fold_out-Stmt, map-Stmt}
-use Rattle.dl_ir.specs.declared.statements.Stmt.TheVariants.{If, While, outs-SetInt, outs-Load, outs-Store, outs-Copy, outs-Null, outs-Follow, outs-New, outs-Link, outs-Cut, outs-Return}
+use Rattle.dl_ir.specs.declared.statements.Stmt.TheVariants.{If, While, outs-SetInt, outs-Load, outs-Store, outs-Copy, outs-Null, outs-Follow, outs-New, outs-Link, outs-Cut, outs-Emit, outs-Return}
 use Rattle.dl_ir.specs.Evaluation.{value_of, holds_of}
-use Rattle.dl_ir.specs.Meaning.{Context, State, fault_end, take_turn, set_local, set_field, make}
+use Rattle.dl_ir.specs.Meaning.{Context, State, fault_end, take_turn, set_local, set_field, add_emitted, make}
 use Rattle.dl_ir.specs.Relation as relation
 use Rattle.dl_ir.specs.Relation.{Runs, RunsBlock, Loops}
 use Rattle.dl_ir.specs.Typed as typed
 use Rattle.dl_ir.specs.Typed.{IsTyped, IsTypedBlock, IsTypedCond, FieldsReferToNodes, types_of}
 use Rattle.dl_meaning.specs.Fitting.{Fits}
-use Rattle.dl_meaning.proofs.Kept.{reference_at, at_reference, number_at, target_at, to_local, to_field, by_open, fits_local, fits_turn, fits_field, fits_new}
+use Rattle.dl_meaning.proofs.Kept.{reference_at, at_reference, number_at, target_at, to_local, to_field, by_open, fits_local, fits_turn, fits_emitted, fits_field, fits_new}
 use Rattle.dl_meaning.proofs.Turns.{block_turns}
 use Rattle.dl_instr.specs.declared.steps.Step.{Step}
-use Rattle.dl_instr.specs.declared.steps.Step.TheVariants.{Read, Want, Set, Drop, Make, Eval, Write, Test, Jump, Give}
+use Rattle.dl_instr.specs.declared.steps.Step.TheVariants.{Read, Want, Set, Drop, Make, Eval, Write, Emit, Test, Jump, Give}
 use Rattle.dl_instr.specs.declared.steps.Origin.TheVariants as origins
 use Rattle.dl_instr.specs.declared.steps.Content.TheVariants as contents
 use Rattle.dl_instr.specs.Code.{Placed, stmt_code, block_code, op_code, steps_of}
@@ -34,7 +34,7 @@ use Rattle.dl_core.specs.Plans.{source_of, allocs_of}
 use Rattle.dl_core.specs.Frames.{Frame}
 use Rattle.dl_core.proofs.Names.{no_some}
 use Rattle.dl_core.proofs.Lone.{Lone}
-use Rattle.dl_core.proofs.Body.{code, From, Over, is_itself, eval_on, eval_fault, give_on, give_fault, read_on, read_null, hand_set, copy_on, drop_on, jump_on, test_true, test_false, test_fault, turn_none, turn_true, turn_false, turn_fault, want_on, want_sealed, write_on, write_null, content_local, make_on, make_quota, new_name, with_new}
+use Rattle.dl_core.proofs.Body.{code, From, Over, is_itself, eval_on, eval_fault, emit_on, emit_full, give_on, give_fault, read_on, read_null, hand_set, copy_on, drop_on, jump_on, test_true, test_false, test_fault, turn_none, turn_true, turn_false, turn_fault, want_on, want_sealed, write_on, write_null, content_local, make_on, make_quota, new_name, with_new}
 use Rattle.dl_core.proofs.Placing.{HasCode, code_head, code_rest, code_front, code_back, Front, front_next, use_next, arrive}
 
 -- the steps of a statement, by its form
@@ -347,6 +347,15 @@ module _ (l : Lone) (base : Frame) (op : OpDecl) (drops : IsWithDrops op (op_cod
     carried (typed.choose {c} {first = block} {second = other} c_is block_is other_is) first code_is s fits on =
         choice first c block other c_is s fits code_is (λ has t t_fits after. carried_block block_is (first + 1) has t t_fits after) (λ place has t t_fits after. carried_block other_is place has t t_fits after) on
     carried (typed.while {c} {body} c_is body_is) first code_is s fits on = loop first c body c_is s fits code_is (λ has t t_fits after. carried_block body_is (first + 1) has t t_fits after) on
+    carried (typed.emit {e} e_is) first code_is s fits on = with_steps _ first s (Eval e ∷ Emit ∷ []) (code_layer _ first _ (outs-Emit e)) (λ has on.
+        let at_emit = behind first Emit (second_of first (Eval e) Emit has) refl in
+        arrive l base op drops context first (Eval e) s (first_of first (Eval e) Emit has) fits (λ at.
+        by_value (value_of e s.locals)
+        (λ n is. eval_on l base (types_of op) (At first) e n s at e_is is (elim (cases_lt (length s.emitted) 16) [
+          | inl room ↦ emit_on l base (At first + 1) n s at_emit room (on_two first (Eval e) Emit (add_emitted n s) has refl (on _ None (relation.emit is room) (fits_emitted n fits)))
+          | inr full ↦ emit_full l base (At first + 1) n s at_emit full (on s (Some ends.Emits) (relation.emit_full is full) fits)
+        ]))
+        (λ fault is. eval_fault l base (types_of op) (At first) e fault s at e_is is (on s (Some (fault_end fault)) (relation.emit_fault is) fits)))) code_is on
     carried (typed.return {e} e_is) first code_is s fits on = with_steps _ first s (Give e ∷ []) (code_layer _ first _ (outs-Return e)) (λ has on.
         arrive l base op drops context first (Give e) s (one_step first (Give e) has) fits (λ at.
         by_value (value_of e s.locals)

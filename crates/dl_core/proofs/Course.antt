@@ -16,7 +16,7 @@ use Rattle.dl_ir.specs.declared.names.Value.TheVariants.{Ref}
 use Rattle.dl_ir.specs.References.{name_eq}
 use Rattle.dl_ir.specs.Typed.{types_of}
 use Rattle.dl_instr.specs.declared.steps.Step.{Step}
-use Rattle.dl_instr.specs.declared.steps.Step.TheVariants.{Read, Want, Set, Drop, Make, Eval, Write, Test, Jump, Give}
+use Rattle.dl_instr.specs.declared.steps.Step.TheVariants.{Read, Want, Set, Drop, Make, Eval, Write, Emit, Test, Jump, Give}
 use Rattle.dl_instr.specs.declared.steps.Origin.TheVariants as origins
 use Rattle.dl_instr.specs.Drops.{is_use}
 use Rattle.dl_core.specs.declared.objects.Mark.TheVariants as marks
@@ -150,6 +150,7 @@ module _ (plan : Plan) (heap : Heap) (caller : ℕ) (op : OpDecl) where
   before_open frame (Some (Make kind)) shut e = e
   before_open frame (Some (Eval value)) shut e = e
   before_open frame (Some (Write local field content)) shut e = absurd (let clash : true ≡ false = shut (Write local field content) refl in cc)
+  before_open frame (Some Emit) shut e = absurd (let clash : true ≡ false = shut Emit refl in cc)
   before_open frame (Some (Test c is_turn place)) shut e = e
   before_open frame (Some (Jump place)) shut e = e
   before_open frame (Some (Give value)) shut e = e

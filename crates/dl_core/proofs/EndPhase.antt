@@ -1,5 +1,5 @@
 -- The end of a lone run settles the heap.
-use Rattle.std.proofs.Common.{◌≡◌, ℕ, zero, suc, ◌+◌, ◌<◌, ◌≤◌, Bool, true, false, ◌&&◌, List, [], ◌∷◌, ◌++◌, Option, Some, None, refl, sym, ap, subst, ◌∙◌, arith, slice_get, slice_set}
+use Rattle.std.proofs.Common.{◌≡◌, ℕ, zero, suc, ◌+◌, ◌<◌, ◌≤◌, Bool, true, false, ◌&&◌, List, [], ◌∷◌, ◌++◌, Option, Some, None, refl, sym, ap, subst, ◌∙◌, arith, slice_get, slice_set, ℤ}
 use Rattle.std.specs.Prelude.{is_some, nat_lt, nat_le, count_by, if◌then◌else◌}
 use Rattle.std.specs.Option.{option_map, option_map_or}
 use Rattle.std.specs.FinMap as finite
@@ -47,11 +47,11 @@ shared_parts false sealed several e = cc
 no_free : {c : ℕ} → Free ≡ Held c → ⊥
 no_free e = cc
 
-module _ (l : Lone) (base : Frame) (serial : Objects) (end : End) (place turns made : ℕ) where
+module _ (l : Lone) (base : Frame) (serial : Objects) (end : End) (place turns made : ℕ) (emitted : List ℤ) where
   -- the frame, where the operation has ended and no loose object is to be worked off
   abbrev pub EndAt : List Value → Book → ℕ → Option Name → Frame
   EndAt locals book spares breach =
-      record base { stage = stages.Ended end; place = place; locals = locals; hand = None; turns = turns; made = made; loose = []; cursor = 0; seen = false; book = book; spares = spares; breach = breach }
+      record base { stage = stages.Ended end; place = place; locals = locals; hand = None; turns = turns; made = made; emitted = emitted; loose = []; cursor = 0; seen = false; book = book; spares = spares; breach = breach }
 
   -- a local becomes null, and what it referred to is worked off
   null_one : (x : ℕ) (locals : List Value) (book : Book) (spares : ℕ) (heap : Heap) → first_referring 0 locals ≡ Some x → Prunes serial (plain heap)

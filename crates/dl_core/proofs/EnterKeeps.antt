@@ -210,6 +210,7 @@ module _ (plan : Plan) (core : Core) (calls : Calls) (caller : ℕ) (is : IsPlan
         by s at (codes.made b e f of) z = omega (arith, e, z)
         by s at (codes.wanted b e f) z = omega (arith, e, z)
         by s at (codes.stored b e f) z = omega (arith, e, z)
+        by s at (codes.told b e f) z = omega (arith, e, z)
         by s at (codes.linked b e f want of) z = omega (arith, e, z)
 
     place_is : frame.place ≡ 0

@@ -30,7 +30,7 @@ use Rattle.dl_core.specs.declared.objects.Mark.TheVariants.{Free, Held, Sealed}
 use Rattle.dl_core.specs.declared.objects.Object.{Object}
 use Rattle.dl_core.specs.declared.stages.Booked.{Booked}
 use Rattle.dl_core.specs.declared.stages.Stage.TheVariants as stages
-use Rattle.dl_core.specs.Codes.{IsTypedStep, read, want, set, copy, drop, make, write, eval, test, give, FitsContent, a_number, a_local, a_null, IsGoodCode}
+use Rattle.dl_core.specs.Codes.{IsTypedStep, read, want, set, copy, drop, make, write, eval, emit, test, give, FitsContent, a_number, a_local, a_null, IsGoodCode}
 use Rattle.dl_core.specs.Heaps.{Heap, refs, field_of, plain, IsHeld, IsSealed}
 use Rattle.dl_core.specs.Plans.{Plan, IsPlan, source_of, steps_of, reference_from}
 use Rattle.dl_core.specs.Frames.{Frame, IsEntered, target_at, target_in_hand, value_in_hand, has_booked}
@@ -84,6 +84,7 @@ write_fits source locals step (write {local = l} {field = f} {kind = k} {ty = t}
       fits = subst (λ x. FitsContent source locals t x) c_is fits;
     }
 write_fits source locals step eval local field content e = absurd (cc)
+write_fits source locals step emit local field content e = absurd (cc)
 write_fits source locals step (test jumps) local field content e = absurd (no_some (sym (ap jump_of e) ∙ jumps))
 write_fits source locals step give local field content e = absurd (cc)
 

@@ -1,5 +1,5 @@
 -- Local steps keep what holds of their own caller.
-use Rattle.std.proofs.Common.{◌≡◌, ◌⊎◌, inl, inr, ℕ, ℤ, zero, suc, ◌+◌, ◌-◌, ◌<◌, Bool, true, false, cond, List, [], ◌∷◌, length, get_or, Option, Some, None, refl, sym, ap, subst, ◌∙◌, arith}
+use Rattle.std.proofs.Common.{◌≡◌, ◌++◌, ◌⊎◌, inl, inr, ℕ, ℤ, zero, suc, ◌+◌, ◌-◌, ◌<◌, Bool, true, false, cond, List, [], ◌∷◌, length, get_or, Option, Some, None, refl, sym, ap, subst, ◌∙◌, arith}
 use Rattle.std.specs.Prelude.{slice_get, slice_set, is_some, count_by, nat_le, nat_lt, ◌==◌, ◌&&◌, ◌||◌, Ok, Err, if◌then◌else◌}
 use Rattle.std.specs.FinMap as finite
 use Rattle.std.proofs.lemmas.Bool.{cases_lt}
@@ -16,13 +16,13 @@ use Rattle.dl_ir.specs.declared.names.Name.{Name}
 use Rattle.dl_ir.specs.declared.names.Value.{Value}
 use Rattle.dl_ir.specs.declared.names.Value.TheVariants.{Int, Ref}
 use Rattle.dl_ir.specs.declared.objects.Obj.{Obj}
-use Rattle.dl_ir.specs.Evaluation.{Number, Truth, value_of, holds_of, target_of}
+use Rattle.dl_ir.specs.Evaluation.{Number, Truth, number_of, value_of, holds_of, target_of}
 use Rattle.dl_ir.specs.Heap.{IsHeapOf, HasType}
 use Rattle.dl_ir.specs.References.{refers_to, target_in}
 use Rattle.dl_ir.specs.Typed.{IsLocalOf, HasFieldOf, types_of}
 use Rattle.dl_meaning.specs.Fitting.{HoldsType}
 use Rattle.dl_instr.specs.declared.steps.Step.{Step}
-use Rattle.dl_instr.specs.declared.steps.Step.TheVariants.{Read, Want, Set, Drop, Make, Eval, Write, Test, Jump, Give}
+use Rattle.dl_instr.specs.declared.steps.Step.TheVariants.{Read, Want, Set, Drop, Make, Eval, Write, Emit, Test, Jump, Give}
 use Rattle.dl_instr.specs.declared.steps.Origin.TheVariants as origins
 use Rattle.dl_instr.specs.declared.steps.Content.{Content}
 use Rattle.dl_instr.specs.declared.steps.Content.TheVariants as contents
@@ -39,7 +39,7 @@ use Rattle.dl_core.specs.Plans.{Plan, source_of, steps_of, reference_from, alloc
 use Rattle.dl_core.specs.Frames.{Frame, assigned, advanced, with_hand, ended, target_at, target_in_hand, has_booked, value_in_hand}
 use Rattle.dl_core.specs.declared.dues.Due.{Due}
 use Rattle.dl_core.specs.declared.dues.Due.TheVariants.{Makes, Takes, Writes, LetsGo}
-use Rattle.dl_core.specs.LocalSteps.{Next, Goes, Stops, next_name, on_number, on_object, on_truth, on_wanted, next_step, next_target, next_value, next_field, next_loose, next_local, next_stage, next_after, next, local_step, step_in, first_referring, refers, ready}
+use Rattle.dl_core.specs.LocalSteps.{Next, Goes, Stops, next_name, on_number, on_object, on_truth, on_wanted, next_step, next_target, next_value, next_field, next_loose, next_local, next_stage, next_after, next, local_step, step_in, first_referring, refers, ready, given_out}
 use Rattle.dl_core.specs.Lawful.{HasReason, for_a_local, for_fields, for_the_list, for_the_hand}
 use Rattle.dl_core.specs.Sound.{HasBook, HasLocals, IsFieldInHand, IsAfterRead, HoldsHand, HandBefore, HandWhile, HandAt, HasCleared, clears, lets_go, IsNotClearing, StandsOpen}
 use Rattle.dl_core.proofs.LocalSteps.{found_local, ready_keeps}
@@ -80,6 +80,7 @@ module _ (plan : Plan) (types : List Ty) (steps : List Step) (code : IsGoodCode 
   filled_by at step (codes.made b e there of) before s is found = fills_as b before _ s (omega (arith, e, is)) there found refl
   filled_by at step (codes.wanted b e there) before s is found = fills_as b before _ s (omega (arith, e, is)) there.step found refl
   filled_by at step (codes.stored b e there) before s is found = fills_as b before _ s (omega (arith, e, is)) there found refl
+  filled_by at step (codes.told b e there) before s is found = fills_as b before _ s (omega (arith, e, is)) there found refl
   filled_by at step (codes.linked b e there want of) before s is found = fills_as (b + 1) before _ s (omega (arith, e, is)) want found refl
 
   -- behind a step that does not fill the hand stands no use
@@ -120,6 +121,7 @@ module _ (plan : Plan) (heap : Heap) (caller : ℕ) (op : OpDecl) (of_module : I
       by t at (codes.made b e f of) is = absurd (no_make (omega (arith, e, is)) f)
       by t at (codes.wanted b e f) is = absurd (no_read (omega (arith, e, is)) f.step)
       by t at (codes.stored b e f) is = (n, hand)
+      by t at (codes.told b e f) is = (n, hand)
       by t at (codes.linked b e f want of) is = absurd (no_want {b = b + 1} (omega (arith, e, is)) want)
 
   -- a field's value by its type
@@ -194,6 +196,7 @@ module _ (plan : Plan) (heap : Heap) (caller : ℕ) (op : OpDecl) (of_module : I
       by t at (codes.made b e f of) is = absurd (no_make (omega (arith, e, is)) f)
       by t at (codes.wanted b e f) is = absurd (no_read (omega (arith, e, is)) f.step)
       by t at (codes.stored b e f) is = absurd (no_eval (omega (arith, e, is)) f)
+      by t at (codes.told b e f) is = absurd (no_eval (omega (arith, e, is)) f)
       by t at (codes.linked b {local = local} {field = field} {kind = kind} {content = content} e f want fits) is =
           let same = read_is b local field (omega (arith, e, is, before.place)) f.step in
           content_before (types.Of kind) local field content fits kind refl
@@ -216,10 +219,10 @@ module _ (plan : Plan) (heap : Heap) (caller : ℕ) (op : OpDecl) (of_module : I
   tidy_hand frame going tidy = subst (HandAt plan heap caller frame op) tidy going.works.hand
 
   -- the code goes on at a place
-  pub onward : (frame : Frame) (place turns : ℕ) (hand : Option Value) → Going frame → frame.loose ≡ [] → frame.stage ≡ stages.Running
-      → HandBefore plan heap caller (record frame { place = place; turns = turns; hand = hand }) op (slice_get (steps_of plan frame.call) place)
-      → ((name : Name) → target_in_hand frame ≡ Some name → target_of hand ≡ Some name) → Going (record frame { place = place; turns = turns; hand = hand })
-  onward frame place turns hand going tidy running before same = record {
+  pub onward : (frame : Frame) (place turns : ℕ) (hand : Option Value) (emitted : List ℤ) → Going frame → frame.loose ≡ [] → frame.stage ≡ stages.Running
+      → HandBefore plan heap caller (record frame { place = place; turns = turns; hand = hand; emitted = emitted }) op (slice_get (steps_of plan frame.call) place)
+      → ((name : Name) → target_in_hand frame ≡ Some name → target_of hand ≡ Some name) → Going (record frame { place = place; turns = turns; hand = hand; emitted = emitted })
+  onward frame place turns hand emitted going tidy running before same = record {
     code = going.code;
     book = record { booked = going.book.booked; all = going.book.all };
     works = record {
@@ -237,9 +240,9 @@ module _ (plan : Plan) (heap : Heap) (caller : ℕ) (op : OpDecl) (of_module : I
   }
     where
       after : Frame
-      after = record frame { place = place; turns = turns; hand = hand }
+      after = record frame { place = place; turns = turns; hand = hand; emitted = emitted }
 
-      by : (name : Name) → HasReason heap frame name → HasReason heap (record frame { place = place; turns = turns; hand = hand }) name
+      by : (name : Name) → HasReason heap frame name → HasReason heap (record frame { place = place; turns = turns; hand = hand; emitted = emitted }) name
       by name (for_a_local some) = for_a_local some
       by name (for_fields several) = for_fields several
       by name (for_the_list has) = for_the_list has
@@ -342,6 +345,7 @@ module _ (plan : Plan) (heap : Heap) (caller : ℕ) (op : OpDecl) (of_module : I
   typed_copy step (codes.make a) local other e = absurd (cc)
   typed_copy step (codes.write a b c) local other e = absurd (cc)
   typed_copy step codes.eval local other e = absurd (cc)
+  typed_copy step codes.emit local other e = absurd (cc)
   typed_copy step (codes.test goes) local other e = absurd (no_some (sym (ap jump_of e) ∙ goes))
   typed_copy step codes.give local other e = absurd (cc)
 
@@ -354,6 +358,7 @@ module _ (plan : Plan) (heap : Heap) (caller : ℕ) (op : OpDecl) (of_module : I
   typed_drop step (codes.make a) local e = absurd (cc)
   typed_drop step (codes.write a b c) local e = absurd (cc)
   typed_drop step codes.eval local e = absurd (cc)
+  typed_drop step codes.emit local e = absurd (cc)
   typed_drop step (codes.test goes) local e = absurd (no_some (sym (ap jump_of e) ∙ goes))
   typed_drop step codes.give local e = absurd (cc)
 
@@ -381,7 +386,7 @@ module _ (plan : Plan) (heap : Heap) (caller : ℕ) (op : OpDecl) (of_module : I
 
       -- from an open step the code goes on at another
       on_open : (place turns : ℕ) → frame.hand ≡ None → ((t : Step) → slice_get steps place ≡ Some t → is_use t ≡ false) → Going (record frame { place = place; turns = turns })
-      on_open place turns none shut = onward frame place turns frame.hand going tidy running (before_open plan heap caller op (record frame { place = place; turns = turns }) (slice_get steps place) shut none) (λ name e. e)
+      on_open place turns none shut = onward frame place turns frame.hand frame.emitted going tidy running (before_open plan heap caller op (record frame { place = place; turns = turns }) (slice_get steps place) shut none) (λ name e. e)
 
       over_open : (end : End) → frame.hand ≡ None → Going (ended end frame)
       over_open end none = over frame end frame.turns going tidy (ap target_of none)
@@ -419,7 +424,7 @@ module _ (plan : Plan) (heap : Heap) (caller : ℕ) (op : OpDecl) (of_module : I
           read = before (Some Want) e
 
           on : HoldsHand heap caller frame → Going (advanced frame)
-          on holds = onward frame (frame.place + 1) frame.turns frame.hand going tidy running (after_want frame (advanced frame) going.code going.works.locals e read refl refl holds) (λ name f. f)
+          on holds = onward frame (frame.place + 1) frame.turns frame.hand frame.emitted going tidy running (after_want frame (advanced frame) going.code going.works.locals e read refl refl holds) (λ name f. f)
 
           held_hand : (name : Name) → target_in_hand frame ≡ Some name → has_booked frame name ≡ true → HoldsHand heap caller frame
           held_hand name f booked n g = subst (IsHeld heap caller) (same_some (sym f ∙ ap target_of g)) (booked_held frame going.book name booked)
@@ -453,11 +458,18 @@ module _ (plan : Plan) (heap : Heap) (caller : ℕ) (op : OpDecl) (of_module : I
           ]
       step_on (Some (Eval value)) e =
           number_on (value_of value frame.locals) _
-          (λ n. onward frame (frame.place + 1) frame.turns (Some (Int n)) going tidy running (after_eval steps going.code frame.place value e n (advanced (with_hand (Some (Int n)) frame)) refl) (λ name f. absurd (no_some (sym (ap target_of (before (Some (Eval value)) e)) ∙ f))))
+          (λ n. onward frame (frame.place + 1) frame.turns (Some (Int n)) frame.emitted going tidy running (after_eval steps going.code frame.place value e n (advanced (with_hand (Some (Int n)) frame)) refl) (λ name f. absurd (no_some (sym (ap target_of (before (Some (Eval value)) e)) ∙ f))))
           (before (Some (Eval value)) e)
       step_on (Some (Write local field contents.Number)) e = object_on (target_at frame local) _ (λ f. ap target_of (before (Some (Write local field contents.Number)) e).1)
       step_on (Some (Write local field (contents.Local other))) e = object_on (target_at frame local) _ (λ f. absurd (no_some (sym f ∙ (before (Some (Write local field (contents.Local other))) e).0.is_local)))
       step_on (Some (Write local field contents.Null)) e = object_on (target_at frame local) _ (λ f. absurd (no_some (sym f ∙ (before (Some (Write local field contents.Null)) e).0.is_local)))
+      step_on (Some Emit) e =
+          let no_target : target_in_hand frame ≡ None = ap target_of (before (Some Emit) e).1 in
+          elim (nat_le 16 (length frame.emitted)) as (λ b. Keeps (if b then Goes (ended ends.Emits frame) else Goes (given_out frame))) [
+            | true ↦ over frame ends.Emits frame.turns going tidy no_target
+            | false ↦ onward frame (frame.place + 1) frame.turns None (frame.emitted ++ number_of frame.hand ∷ []) going tidy running
+                (before_open plan heap caller op (given_out frame) (slice_get steps (frame.place + 1)) (next_shut Emit e refl) refl) (λ name f. absurd (no_some (sym no_target ∙ f)))
+          ]
       step_on (Some (Test c false place)) e = truth_on (holds_of c frame.locals) place frame.turns (before (Some (Test c false place)) e) (next_shut (Test c false place) e refl) (λ t there. going.code.passed frame.place place (Test c false place) t e refl there)
       step_on (Some (Test c true place)) e = by (frame.turns == 0)
         where

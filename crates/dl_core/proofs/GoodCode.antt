@@ -15,7 +15,7 @@ use Rattle.dl_ir.specs.declared.modules.Ty.TheVariants.{Int, Of}
 use Rattle.dl_ir.specs.Checked.{IsOperation}
 use Rattle.dl_ir.specs.Typed.{IsTypedBlock, types_of}
 use Rattle.dl_instr.specs.declared.steps.Step.{Step}
-use Rattle.dl_instr.specs.declared.steps.Step.TheVariants.{Read, Want, Set, Drop, Make, Eval, Write, Test, Jump, Give}
+use Rattle.dl_instr.specs.declared.steps.Step.TheVariants.{Read, Want, Set, Drop, Make, Eval, Write, Emit, Test, Jump, Give}
 use Rattle.dl_instr.specs.declared.steps.Origin.TheVariants as origins
 use Rattle.dl_instr.specs.Code.{block_code, op_code}
 use Rattle.dl_instr.specs.Drops.{is_use, is_kind, is_reference, front, moved, IsAddedDrop, IsWithDrops}
@@ -25,7 +25,7 @@ use Rattle.dl_core.specs.Codes.{IsTypedStep, IsReadAt, IsFilledFor, IsGoodCode, 
 use Rattle.dl_core.specs.LocalSteps.{drops_before_turn, GoesBackToTurns}
 use Rattle.dl_core.specs.Plans.{source_of}
 use Rattle.dl_core.proofs.Names.{same_some, no_some}
-use Rattle.dl_core.proofs.PlainCode.{Hand, HandEmpty, HasValue, HasLoaded, HasRead, HasFollowed, HasNew, Moves, evals, loads, reads, wants, makes, sets_value, sets_loaded, sets_followed, sets_new, stores, joins, copies, drops, gives, tests, leaps, Flows, flows_on, IsTurnAt, IsOpenAt, past_all, at_step, Lands, moved_to, block_part, land_append, land_straight, lands_front, get_front, get_back, IsPart}
+use Rattle.dl_core.proofs.PlainCode.{Hand, HandEmpty, HasValue, HasLoaded, HasRead, HasFollowed, HasNew, Moves, evals, loads, reads, wants, makes, sets_value, sets_loaded, sets_followed, sets_new, stores, tells, joins, copies, drops, gives, tests, leaps, Flows, flows_on, IsTurnAt, IsOpenAt, past_all, at_step, Lands, moved_to, block_part, land_append, land_straight, lands_front, get_front, get_back, IsPart}
 
 module _ (source : Module) (types : List Ty) where
   -- ---- how the hand came to hold what it holds
@@ -49,6 +49,7 @@ module _ (source : Module) (types : List Ty) where
   came_next steps at step hand next is came (sets_followed a) = tt
   came_next steps at step hand next is came (sets_new a) = tt
   came_next steps at step hand next is came (stores a b) = tt
+  came_next steps at step hand next is came tells = tt
   came_next steps at step hand next is came (joins a b c) = tt
   came_next steps at step hand next is came (copies a b) = tt
   came_next steps at step hand next is came (drops a) = tt
@@ -76,6 +77,7 @@ module _ (source : Module) (types : List Ty) where
   uses hand next step full (sets_followed a) = refl
   uses hand next step full (sets_new a) = refl
   uses hand next step full (stores a b) = refl
+  uses hand next step full tells = refl
   uses hand next step full (joins a b c) = refl
   uses hand next step full (copies a b) = absurd (full refl)
   uses hand next step full (drops a) = absurd (full refl)
@@ -95,6 +97,7 @@ module _ (source : Module) (types : List Ty) where
   full_after hand next step is (sets_followed a) e = absurd (cc)
   full_after hand next step is (sets_new a) e = absurd (cc)
   full_after hand next step is (stores a b) e = absurd (cc)
+  full_after hand next step is tells e = absurd (cc)
   full_after hand next step is (joins a b c) e = absurd (cc)
   full_after hand next step is (copies a b) e = absurd (cc)
   full_after hand next step is (drops a) e = absurd (cc)
@@ -139,6 +142,7 @@ module _ (source : Module) (types : List Ty) where
   typed_by hand next step (sets_followed a) = codes.set a
   typed_by hand next step (sets_new a) = codes.set a
   typed_by hand next step (stores a b) = codes.write a b codes.a_number
+  typed_by hand next step tells = codes.emit
   typed_by hand next step (joins a b c) = codes.write a b c
   typed_by hand next step (copies a b) = codes.copy a b
   typed_by hand next step (drops a) = codes.drop a
@@ -225,6 +229,7 @@ is_use_moved to (Drop local) = refl
 is_use_moved to (Make kind) = refl
 is_use_moved to (Eval value) = refl
 is_use_moved to (Write local field content) = refl
+is_use_moved to Emit = refl
 is_use_moved to (Test c is_turn place) = refl
 is_use_moved to (Jump place) = refl
 is_use_moved to (Give value) = refl
@@ -237,6 +242,7 @@ fills_moved to (Drop local) = refl
 fills_moved to (Make kind) = refl
 fills_moved to (Eval value) = refl
 fills_moved to (Write local field content) = refl
+fills_moved to Emit = refl
 fills_moved to (Test c is_turn place) = refl
 fills_moved to (Jump place) = refl
 fills_moved to (Give value) = refl
@@ -249,6 +255,7 @@ jump_moved to (Drop local) = refl
 jump_moved to (Make kind) = refl
 jump_moved to (Eval value) = refl
 jump_moved to (Write local field content) = refl
+jump_moved to Emit = refl
 jump_moved to (Test c is_turn place) = refl
 jump_moved to (Jump place) = refl
 jump_moved to (Give value) = refl
@@ -261,6 +268,7 @@ typed_moved source types to (Drop local) t = t
 typed_moved source types to (Make kind) t = t
 typed_moved source types to (Eval value) t = t
 typed_moved source types to (Write local field content) t = t
+typed_moved source types to Emit t = t
 typed_moved source types to (Test c is_turn place) t = codes.test refl
 typed_moved source types to (Jump place) t = codes.test refl
 typed_moved source types to (Give value) t = t
@@ -339,6 +347,8 @@ module _ (source : Module) (op : OpDecl) (plain steps : List Step) (is : IsPlain
       codes.wanted (w.at came.0) (ap w.at came.1 ∙ neighbour came.0 (Read local field) step came.2.step (ap (slice_get plain) (sym came.1) ∙ there) used_so) (read_at came.0 local field (Of kind) came.2)
   filled i hand next step there used_so came (stores of has) =
       codes.stored (w.at came.0) (ap w.at came.1 ∙ neighbour came.0 (Eval came.2.0) step came.2.1 (ap (slice_get plain) (sym came.1) ∙ there) used_so) (w.kept came.0 (Eval came.2.0) came.2.1)
+  filled i hand next step there used_so came tells =
+      codes.told (w.at came.0) (ap w.at came.1 ∙ neighbour came.0 (Eval came.2.0) step came.2.1 (ap (slice_get plain) (sym came.1) ∙ there) used_so) (w.kept came.0 (Eval came.2.0) came.2.1)
   filled i hand next step there used_so came (joins {local} {field} {kind} {target} of has fits) =
       let first : w.at (came.0 + 1) ≡ w.at came.0 + 1 = neighbour came.0 (Read local field) Want came.2.step came.3 refl in
       let on : i ≡ came.0 + 1 + 1 = omega (arith, came.1) in
@@ -363,6 +373,7 @@ module _ (source : Module) (op : OpDecl) (plain steps : List Step) (is : IsPlain
   used_as_is to (Make kind) e = refl
   used_as_is to (Eval value) e = refl
   used_as_is to (Write local field content) e = refl
+  used_as_is to Emit e = refl
   used_as_is to (Test c is_turn place) e = absurd (clash (sym e))
   used_as_is to (Jump place) e = absurd (clash (sym e))
   used_as_is to (Give value) e = refl

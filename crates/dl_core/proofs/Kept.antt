@@ -1,5 +1,5 @@
 -- What local steps leave alone.
-use Rattle.std.proofs.Common.{◌≡◌, ℕ, ℤ, ◌-◌, true, false, List, [], ◌∷◌, ◌++◌, length, Option, Some, None, refl, subst, ◌∙◌}
+use Rattle.std.proofs.Common.{◌≡◌, ◌≤◌, arith, ℕ, ℤ, ◌-◌, true, false, List, [], ◌∷◌, ◌++◌, length, Option, Some, None, refl, subst, ◌∙◌}
 use Rattle.std.specs.Prelude.{slice_get, slice_set, nat_lt, nat_le, ◌==◌, ◌&&◌, ◌||◌, Ok, Err, if◌then◌else◌}
 use Rattle.std.specs.FinMap as finite
 use Rattle.dl_ir.specs.declared.answers.End.{End}
@@ -7,10 +7,10 @@ use Rattle.dl_ir.specs.declared.answers.End.TheVariants as ends
 use Rattle.dl_ir.specs.declared.names.Name.{Name}
 use Rattle.dl_ir.specs.declared.names.Value.{Value}
 use Rattle.dl_ir.specs.declared.names.Value.TheVariants.{Ref}
-use Rattle.dl_ir.specs.Evaluation.{Number, Truth, value_of, holds_of}
+use Rattle.dl_ir.specs.Evaluation.{Number, Truth, number_of, value_of, holds_of}
 use Rattle.dl_ir.specs.References.{target_in}
 use Rattle.dl_instr.specs.declared.steps.Step.{Step}
-use Rattle.dl_instr.specs.declared.steps.Step.TheVariants.{Read, Want, Set, Drop, Make, Eval, Write, Test, Jump, Give}
+use Rattle.dl_instr.specs.declared.steps.Step.TheVariants.{Read, Want, Set, Drop, Make, Eval, Write, Emit, Test, Jump, Give}
 use Rattle.dl_instr.specs.declared.steps.Origin.TheVariants as origins
 use Rattle.dl_core.specs.declared.stages.Booked.{Booked}
 use Rattle.dl_core.specs.declared.stages.Stage.{Stage}
@@ -19,41 +19,44 @@ use Rattle.dl_core.specs.Plans.{Plan, steps_of, allocs_of, reference_from}
 use Rattle.dl_core.specs.Frames.{Frame, is_to_loosen, loosened, assigned, advanced, with_hand, ended, target_at, target_in_hand, has_booked}
 use Rattle.dl_core.specs.declared.dues.Due.{Due}
 use Rattle.dl_core.specs.declared.dues.Due.TheVariants.{Takes, Writes, Makes, LetsGo}
-use Rattle.dl_core.specs.LocalSteps.{next_name, Next, Goes, Stops, on_number, on_object, on_truth, on_wanted, next_step, next_target, next_value, next_field, next_loose, next_local, next_stage, next_after, next, local_step, step_in, first_referring, ready}
-use Rattle.std.proofs.lemmas.List.{length-set}
+use Rattle.dl_core.specs.LocalSteps.{given_out, next_name, Next, Goes, Stops, on_number, on_object, on_truth, on_wanted, next_step, next_target, next_value, next_field, next_loose, next_local, next_stage, next_after, next, local_step, step_in, first_referring, ready}
+use Rattle.std.proofs.lemmas.List.{length-append, length-set}
 use Rattle.dl_core.specs.Shown.{IsTidy}
 use Rattle.dl_core.proofs.Tidy.{loosened_tidy}
 use Rattle.dl_core.proofs.LocalSteps.{ready_keeps}
 
--- the frames have the same call, ticket, places, book and deeds
+-- the frames have the same call, ticket, places, book and deeds, and no number given out is taken back
 abbrev pub IsSame : Frame → Frame → Type 0
-IsSame before after = (after.call ≡ before.call) × (after.index ≡ before.index) × (after.taken ≡ before.taken) × (after.ticket ≡ before.ticket) × (after.made ≡ before.made) × (after.emitted ≡ before.emitted) × (after.spares ≡ before.spares)
+IsSame before after = (after.call ≡ before.call) × (after.index ≡ before.index) × (after.taken ≡ before.taken) × (after.ticket ≡ before.ticket) × (after.made ≡ before.made) × (length before.emitted ≤ length after.emitted) × (after.spares ≡ before.spares)
     × (after.book ≡ before.book) × (after.breach ≡ before.breach) × (after.finished ≡ before.finished) × (length after.locals ≡ length before.locals) × (IsTidy before → IsTidy after)
 
 pub itself : (frame : Frame) → IsSame frame frame
-itself frame = (refl, refl, refl, refl, refl, refl, refl, refl, refl, refl, refl, λ tidy. tidy)
+itself frame = (refl, refl, refl, refl, refl, omega arith, refl, refl, refl, refl, refl, λ tidy. tidy)
 
 pub same_loosened : (target : Option Name) (frame : Frame) → IsSame frame (loosened target frame)
 same_loosened None frame = itself frame
 same_loosened (Some name) frame =
     elim (is_to_loosen frame name) as (λ b. is_to_loosen frame name ≡ b → IsSame frame (if b then record frame { loose = frame.loose ++ name ∷ [] } else frame)) [
-      | true ↦ λ is. (refl, refl, refl, refl, refl, refl, refl, refl, refl, refl, refl, λ tidy. loosened_tidy frame name is tidy)
+      | true ↦ λ is. (refl, refl, refl, refl, refl, omega arith, refl, refl, refl, refl, refl, λ tidy. loosened_tidy frame name is tidy)
       | false ↦ λ is. itself frame
     ] refl
 
 same_on : (a b c : Frame) → IsSame a b → IsSame b c → IsSame a c
-same_on a b c p q = (q.0 ∙ p.0, q.1 ∙ p.1, q.2 ∙ p.2, q.3 ∙ p.3, q.4 ∙ p.4, q.5 ∙ p.5, q.6 ∙ p.6, q.7 ∙ p.7, q.8 ∙ p.8, q.9 ∙ p.9, q.10 ∙ p.10, λ tidy. q.11 (p.11 tidy))
+same_on a b c p q = (q.0 ∙ p.0, q.1 ∙ p.1, q.2 ∙ p.2, q.3 ∙ p.3, q.4 ∙ p.4, omega (arith, p.5, q.5), q.6 ∙ p.6, q.7 ∙ p.7, q.8 ∙ p.8, q.9 ∙ p.9, q.10 ∙ p.10, λ tidy. q.11 (p.11 tidy))
 
 pub same_assigned : (local : ℕ) (value : Value) (frame : Frame) → IsSame frame (assigned local value frame)
 same_assigned local value frame =
     let set = record frame { locals = slice_set frame.locals local value } in
-    same_on frame set (assigned local value frame) (refl, refl, refl, refl, refl, refl, refl, refl, refl, refl, length-set frame.locals local value, λ tidy. tidy) (same_loosened (target_at frame local) set)
+    same_on frame set (assigned local value frame) (refl, refl, refl, refl, refl, omega arith, refl, refl, refl, refl, length-set frame.locals local value, λ tidy. tidy) (same_loosened (target_at frame local) set)
 
 abbrev Keeps : Frame → Next → Type 0
 Keeps frame (Goes after) = IsSame frame after
 Keeps frame (Stops due) = Unit {0}
 
 module _ (plan : Plan) (frame : Frame) where
+  one_more : (numbers : List ℤ) → length numbers ≤ length (numbers ++ number_of frame.hand ∷ [])
+  one_more numbers = omega (arith, length-append numbers (number_of frame.hand ∷ []))
+
   keeps_number : (number : Number) (goes : ℤ → Frame) → ((n : ℤ) → IsSame frame (goes n)) → Keeps frame (on_number number frame goes)
   keeps_number (Ok n) goes same = same n
   keeps_number (Err fault) goes same = itself frame
@@ -81,6 +84,10 @@ module _ (plan : Plan) (frame : Frame) where
   keeps_step (Some (Make kind)) = elim (nat_le (allocs_of plan frame.call) frame.made) as (λ b. Keeps frame (if b then Goes (ended ends.Quota frame) else Stops (Makes (next_name frame) kind))) [ true ↦ itself frame | false ↦ tt ]
   keeps_step (Some (Eval value)) = keeps_number (value_of value frame.locals) _ (λ n. itself frame)
   keeps_step (Some (Write local field content)) = keeps_object (target_at frame local) _
+  keeps_step (Some Emit) = elim (nat_le 16 (length frame.emitted)) as (λ b. Keeps frame (if b then Goes (ended ends.Emits frame) else Goes (given_out frame))) [
+    | true ↦ itself frame
+    | false ↦ (refl, refl, refl, refl, refl, one_more frame.emitted, refl, refl, refl, refl, refl, λ tidy. tidy)
+  ]
   keeps_step (Some (Test c false place)) = keeps_truth (holds_of c frame.locals) place frame (itself frame)
   keeps_step (Some (Test c true place)) =
       elim (frame.turns == 0) as (λ b. Keeps frame (if b then Goes (ended ends.Fuel frame) else on_truth (holds_of c frame.locals) place (record frame { turns = frame.turns - 1 }))) [

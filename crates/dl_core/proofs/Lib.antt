@@ -20,6 +20,9 @@ pub mod Tidy
 pub mod Kept
 pub mod Ways
 pub mod Moves
+pub mod Recounting
+pub mod RootNumbers
+pub mod FewRoots
 pub mod Clearance
 pub mod HeapKept
 pub mod Fresh

@@ -16,7 +16,7 @@ use Rattle.dl_ir.specs.declared.names.Value.TheVariants.{Int, Ref}
 use Rattle.dl_ir.specs.Evaluation.{Number, Truth, value_of, holds_of}
 use Rattle.dl_ir.specs.References.{target_in}
 use Rattle.dl_instr.specs.declared.steps.Step.{Step}
-use Rattle.dl_instr.specs.declared.steps.Step.TheVariants.{Read, Want, Set, Drop, Make, Eval, Write, Test, Jump, Give}
+use Rattle.dl_instr.specs.declared.steps.Step.TheVariants.{Read, Want, Set, Drop, Make, Eval, Write, Emit, Test, Jump, Give}
 use Rattle.dl_instr.specs.declared.steps.Origin.TheVariants as origins
 use Rattle.dl_core.specs.declared.stages.Booked.{Booked}
 use Rattle.dl_core.specs.declared.stages.Stage.{Stage}
@@ -25,7 +25,7 @@ use Rattle.dl_core.specs.Plans.{Plan, steps_of, allocs_of, reference_from}
 use Rattle.dl_core.specs.Frames.{Frame, is_to_loosen, loosened, assigned, advanced, gone_to, with_hand, ended, target_at, target_in_hand, has_booked}
 use Rattle.dl_core.specs.declared.dues.Due.{Due}
 use Rattle.dl_core.specs.declared.dues.Due.TheVariants.{Takes, Writes, Makes, LetsGo}
-use Rattle.dl_core.specs.LocalSteps.{next_name, Next, Goes, Stops, on_number, on_object, on_truth, on_wanted, next_step, next_target, next_value, next_field, next_loose, next_local, next_stage, next_after, next, local_step, step_in, first_referring, or_next, refers, drops_before_turn, GoesBackToTurns, distance, distance_by, code_left, stage_left, hand_left, steps_left, ready, IsReady}
+use Rattle.dl_core.specs.LocalSteps.{next_name, Next, Goes, Stops, on_number, on_object, on_truth, on_wanted, next_step, next_target, next_value, next_field, next_loose, next_local, next_stage, next_after, next, local_step, step_in, first_referring, or_next, refers, drops_before_turn, GoesBackToTurns, distance, distance_by, code_left, stage_left, hand_left, steps_left, ready, IsReady, given_out}
 use Rattle.dl_core.proofs.GoingOn.{stays, stops, same_stop, keeps}
 
 -- ---- places in the code
@@ -47,6 +47,7 @@ few_drops (Drop local ∷ rest) count e = by (λ n. few_drops rest n) (drops_bef
 few_drops (Make kind ∷ rest) count e = absurd (cc)
 few_drops (Eval value ∷ rest) count e = absurd (cc)
 few_drops (Write local field content ∷ rest) count e = absurd (cc)
+few_drops (Emit ∷ rest) count e = absurd (cc)
 few_drops (Test c true place ∷ rest) count e = let same : 0 ≡ count = cc in omega (arith, same)
 few_drops (Test c false place ∷ rest) count e = absurd (cc)
 few_drops (Jump place ∷ rest) count e = absurd (cc)
@@ -205,6 +206,10 @@ module _ (plan : Plan) (frame : Frame) (running : frame.stage ≡ stages.Running
     step_falls (Some (Make kind)) is = elim (nat_le (allocs_of plan frame.call) frame.made) as (λ b. Falls plan frame (if b then Goes (ended ends.Quota frame) else Stops (Makes (next_name frame) kind))) [ true ↦ ends_less _ | false ↦ tt ]
     step_falls (Some (Eval value)) is = number_falls (value_of value frame.locals) _ (λ n. code_less (advanced (with_hand (Some (Int n)) frame)) running refl refl (behind_less (Eval value) is refl))
     step_falls (Some (Write local field content)) is = object_falls (target_at frame local) _
+    step_falls (Some Emit) is = elim (nat_le 16 (length frame.emitted)) as (λ b. Falls plan frame (if b then Goes (ended ends.Emits frame) else Goes (given_out frame))) [
+      | true ↦ ends_less _
+      | false ↦ code_less (given_out frame) running refl refl (behind_less Emit is refl)
+    ]
     step_falls (Some (Test c false place)) is =
         truth_falls (holds_of c frame.locals) place frame
         (code_less (advanced frame) running refl refl (behind_less (Test c false place) is refl))

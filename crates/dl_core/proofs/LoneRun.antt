@@ -1,5 +1,5 @@
 -- The lone run of a caller on the machine.
-use Rattle.std.proofs.Common.{◌≡◌, ◌≢◌, ℕ, ◌+◌, ◌<◌, true, false, ◌&&◌, ◌||◌, List, [], ◌∷◌, ◌++◌, length, get_or, set, Option, Some, None, refl, sym, ap, subst, ◌∙◌, arith, slice_set}
+use Rattle.std.proofs.Common.{◌≡◌, ◌≢◌, ℕ, ◌+◌, ◌<◌, true, false, ◌&&◌, ◌||◌, List, [], ◌∷◌, ◌++◌, length, get_or, set, Option, Some, None, refl, sym, ap, subst, ◌∙◌, arith, slice_set, ℤ}
 use Rattle.std.specs.Prelude.{nat_lt, ◌==◌, if◌then◌else◌}
 use Rattle.std.specs.FinMap as finite
 use Rattle.std.proofs.lemmas.List.{get_or-set_same, get_or-set_other, set-set}
@@ -232,12 +232,12 @@ module _ (plan : Plan) (caller : ℕ) (frames : List Frame) (pool : Pool) where
         Final left = IsFinal base total objects answer left
 
         -- where all is settled the operation is finished
-        pub finish_on : (serial : Objects) (end : End) (place turns made : ℕ) → settled serial ≡ objects → ◌≡◌ {A = Answer} (record { end = end; breach = breach_of serial }) answer
+        pub finish_on : (serial : Objects) (end : End) (place turns made : ℕ) (emitted : List ℤ) → settled serial ≡ objects → ◌≡◌ {A = Answer} (record { end = end; breach = breach_of serial; emitted = emitted }) answer
             → ((heap : Heap) (frame : Frame) → IsHere heap frame → frame.spares + hidden_count (plain heap) ≡ total)
             → (locals : List Value) (book : Book) (spares : ℕ) (breach : Option Name) (heap : Heap) → first_referring 0 locals ≡ None → finite.entries book ≡ [] → plain heap ≡ settled serial → breach ≡ breach_of serial
-            → Ends (lone_end Final) heap (EndAt (lone_end Final) base serial end place turns made locals book spares breach)
-        finish_on serial end place turns made objects_are answer_is total_is locals book spares breach heap none are settled_is breach_is =
-            let raw = EndAt (lone_end Final) base serial end place turns made locals book spares breach in
+            → Ends (lone_end Final) heap (EndAt (lone_end Final) base serial end place turns made emitted locals book spares breach)
+        finish_on serial end place turns made emitted objects_are answer_is total_is locals book spares breach heap none are settled_is breach_is =
+            let raw = EndAt (lone_end Final) base serial end place turns made emitted locals book spares breach in
             let comes : next plan raw ≡ Stops (Finishes end) = ap (next_local raw end) none ∙ ap (λ es. Stops (next_held end es)) are in
             let stays : ready plan raw ≡ raw = ready_stays plan raw (ap step_in comes) in
             subst (λ f. IsHere heap f → Comes Final heap f) (sym stays) (λ here. (
@@ -247,16 +247,16 @@ module _ (plan : Plan) (caller : ℕ) (frames : List Frame) (pool : Pool) where
                 heap = settled_is ∙ objects_are;
                 spares = spares;
                 frame = frame_here heap (finished end raw)
-                    ∙ ap (λ b. at_rest base.index (base.finished ++ record { index = base.index; ticket = base.ticket; answer = record { end = end; breach = b }; returned = spares } ∷ [])) breach_is
+                    ∙ ap (λ b. at_rest base.index (base.finished ++ record { index = base.index; ticket = base.ticket; answer = record { end = end; breach = b; emitted = emitted }; returned = spares } ∷ [])) breach_is
                     ∙ ap (λ a. at_rest base.index (base.finished ++ record { index = base.index; ticket = base.ticket; answer = a; returned = spares } ∷ [])) answer_is;
                 returned = total_is heap raw here;
               },
             ))
 
         -- the end of the body, and what comes behind it
-        pub over_on : (s : State) (end : End) → settled s.objects ≡ objects → ◌≡◌ {A = Answer} (record { end = end; breach = breach_of s.objects }) answer → ((heap : Heap) (frame : Frame) → IsHere heap frame → frame.spares + hidden_count (plain heap) ≡ total)
+        pub over_on : (s : State) (end : End) → settled s.objects ≡ objects → ◌≡◌ {A = Answer} (record { end = end; breach = breach_of s.objects; emitted = s.emitted }) answer → ((heap : Heap) (frame : Frame) → IsHere heap frame → frame.spares + hidden_count (plain heap) ≡ total)
             → base.breach ≡ None → ((frame : Frame) → HasEnded end s.turns frame → Mid frame) → Over (lone_whole Final Mid) base end s
         over_on s end objects_are answer_is total_is no_breach mid_is place locals book spares heap pruned here =
-            let raw = EndAt (lone_end Final) base s.objects end place s.turns s.made locals book spares base.breach in
-            let done = settles (lone_end Final) base s.objects end place s.turns s.made no_breach (finish_on s.objects end place s.turns s.made objects_are answer_is total_is) locals book spares heap pruned here in
+            let raw = EndAt (lone_end Final) base s.objects end place s.turns s.made s.emitted locals book spares base.breach in
+            let done = settles (lone_end Final) base s.objects end place s.turns s.made s.emitted no_breach (finish_on s.objects end place s.turns s.made s.emitted objects_are answer_is total_is) locals book spares heap pruned here in
             (done, (heap, ready plan raw, laws.nowhere, mid_is (ready plan raw) (ended_ready plan end s.turns raw (refl, refl))))

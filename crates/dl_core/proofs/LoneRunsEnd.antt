@@ -188,7 +188,7 @@ module _ (plan : Plan) (core : Core) (calls : Calls) (caller ticket : ℕ) (call
             has.1 ∙ ap (λ (r : Outcome). r.state.turns) (sym (sound_block (context_of source ticket op) runs)) ∙ ap (λ p. (body_outcome source (plain heap) ticket call.args p).state.turns) same,
       ))
 
-  base_is : At run base 0 (first_locals op call.args) None op.fuel 0 just.book (allocs_of plan call) ≡ base
+  base_is : At run base 0 (first_locals op call.args) None op.fuel 0 [] just.book (allocs_of plan call) ≡ base
   base_is =
       let locals_are : first_locals op call.args ≡ locals_of plan call = sym (ap (λ o. option_map_or (λ (p : OpDecl). first_locals p call.args) o []) just.fits.declared) in
       let fuel_is : op.fuel ≡ fuel_of plan call = sym (ap (λ o. option_map_or (λ (p : OpDecl). p.fuel) o 0) just.fits.declared) in

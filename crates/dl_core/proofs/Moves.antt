@@ -9,7 +9,7 @@ use Rattle.dl_ir.specs.Heap.{name_cmp}
 use Rattle.dl_instr.specs.declared.code.Code.{Code}
 use Rattle.dl_core.specs.declared.frames.Frame.{Frame as Kept}
 use Rattle.dl_core.specs.declared.stages.Booked.{Booked}
-use Rattle.dl_core.specs.Plans.{Plan, steps_of, roots_of}
+use Rattle.dl_core.specs.Plans.{steps_of, roots_of}
 use Rattle.dl_core.specs.Frames.{Frame, Book, behind_of, recounted}
 use Rattle.dl_core.specs.LocalSteps.{GoesBackToTurns}
 use Rattle.dl_core.specs.Shown.{shown, rooms_of, Rooms, CanGoOn, IsTidy, AreTidy}

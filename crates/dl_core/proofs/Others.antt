@@ -11,7 +11,7 @@ use Rattle.dl_ir.specs.declared.names.Value.{Value}
 use Rattle.dl_ir.specs.declared.names.Value.TheVariants.{Int, Ref}
 use Rattle.dl_meaning.specs.Fitting.{HoldsType}
 use Rattle.dl_instr.specs.declared.steps.Step.{Step}
-use Rattle.dl_instr.specs.declared.steps.Step.TheVariants.{Read, Want, Set, Drop, Make, Eval, Write, Test, Jump, Give}
+use Rattle.dl_instr.specs.declared.steps.Step.TheVariants.{Read, Want, Set, Drop, Make, Eval, Write, Emit, Test, Jump, Give}
 use Rattle.dl_instr.specs.declared.steps.Origin.TheVariants as origins
 use Rattle.dl_instr.specs.declared.steps.Content.TheVariants as contents
 use Rattle.dl_core.specs.declared.objects.Mark.TheVariants.{Free, Held, Sealed}
@@ -163,6 +163,7 @@ module _ (heap : Heap) (tickets : ℕ → ℕ) (own : IsOwn tickets) (c : ℕ) (
       before_kept (Some (Write local field contents.Number)) h = h
       before_kept (Some (Write local field (contents.Local from))) h = (field_kept local field h.0, hand_kept h.1)
       before_kept (Some (Write local field contents.Null)) h = (field_kept local field h.0, hand_kept h.1)
+      before_kept (Some Emit) h = h
       before_kept (Some (Test q is_turn place)) h = h
       before_kept (Some (Jump place)) h = h
       before_kept (Some (Give value)) h = h

@@ -149,12 +149,13 @@ module _ (plan : Plan) (core : Core) (calls : Calls) (caller : ℕ) (is : IsPlan
         read = record { name = name; is_local = ap (λ ls. target_of (slice_get ls local)) same_locals ∙ at; object = object; there = found; held = held; in_hand = hand };
       }
       by t p (codes.stored b e f) z = absurd (no_eval (omega (arith, e, z)) f)
+      by t p (codes.told b e f) z = absurd (no_eval (omega (arith, e, z)) f)
       by t p (codes.linked b e f want of) z = absurd (no_want {b = b + 1} (omega (arith, e, z)) want)
 
   pub reads_code : (w : Entered) (local field : ℕ) (name : Name) (object : Object) → IsAtStep plan frame (Read local field) → target_at frame local ≡ Some name → finite.get heap name ≡ Some object → object.mark ≡ Held caller
       → IsGoing plan heap caller w.0.op (with_hand (Some (field_of object field)) (advanced frame))
   reads_code w local field name object at to found held =
-      onward plan heap caller w.0.op sound.heap frame (frame.place + 1) frame.turns (Some (field_of object field)) (going_now w) at.tidy at.running
+      onward plan heap caller w.0.op sound.heap frame (frame.place + 1) frame.turns (Some (field_of object field)) frame.emitted (going_now w) at.tidy at.running
       (after_read w local field name object (with_hand (Some (field_of object field)) (advanced frame)) at.there to found held refl refl refl refl)
       (λ n e. absurd (no_some (sym (ap target_of (hand_before plan core calls caller is lawful sound w (Read local field) at)) ∙ e)))
 

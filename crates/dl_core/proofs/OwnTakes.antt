@@ -399,6 +399,7 @@ module _ (plan : Plan) (core : Core) (calls : Calls) (caller : ℕ) (is : IsPlan
   typed_make source locals step (codes.make {kind = k} a) kind e = let same : k ≡ kind = cc in subst (IsNodeKind source) same a
   typed_make source locals step (codes.write a b c) kind e = absurd (cc)
   typed_make source locals step codes.eval kind e = absurd (cc)
+  typed_make source locals step codes.emit kind e = absurd (cc)
   typed_make source locals step (codes.test leaps) kind e = absurd (no_some (sym (ap jump_of e) ∙ leaps))
   typed_make source locals step codes.give kind e = absurd (cc)
 
@@ -466,6 +467,7 @@ module _ (plan : Plan) (core : Core) (calls : Calls) (caller : ℕ) (is : IsPlan
         }
         by t p (codes.wanted b e f) z = absurd (no_read (omega (arith, e, z)) f.step)
         by t p (codes.stored b e f) z = absurd (no_eval (omega (arith, e, z)) f)
+        by t p (codes.told b e f) z = absurd (no_eval (omega (arith, e, z)) f)
         by t p (codes.linked b e f want of) z = absurd (no_want {b = b + 1} (omega (arith, e, z)) want)
 
     pub makes_one : Kept w.0.op x (Some object) next

@@ -11,7 +11,7 @@ use Rattle.dl_ir.specs.Typed.{types_of}
 use Rattle.dl_meaning.specs.Fitting.{Fits}
 use Rattle.dl_meaning.proofs.Kept.{Refers, reference_at}
 use Rattle.dl_instr.specs.declared.steps.Step.{Step}
-use Rattle.dl_instr.specs.declared.steps.Step.TheVariants.{Read, Want, Set, Drop, Make, Eval, Write, Test, Jump, Give}
+use Rattle.dl_instr.specs.declared.steps.Step.TheVariants.{Read, Want, Set, Drop, Make, Eval, Write, Emit, Test, Jump, Give}
 use Rattle.dl_instr.specs.Code.{op_code}
 use Rattle.dl_instr.specs.Drops.{is_use, is_kind, is_reference, front, moved, IsWithDrops, IsAddedDrop}
 use Rattle.dl_instr.proofs.PlainSteps.{in_front_part, in_back_part}
@@ -44,6 +44,7 @@ moved_use to (Drop local) = refl
 moved_use to (Make kind) = refl
 moved_use to (Eval value) = refl
 moved_use to (Write local field content) = refl
+moved_use to Emit = refl
 moved_use to (Test c is_turn place) = refl
 moved_use to (Jump place) = refl
 moved_use to (Give value) = refl

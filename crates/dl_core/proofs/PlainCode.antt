@@ -13,7 +13,7 @@ use Rattle.dl_ir.specs.Heap.{IsNodeKind}
 use Rattle.dl_ir.specs.Typed as typed
 use Rattle.dl_ir.specs.Typed.{IsNumberLocal, IsLocalOf, HasFieldOf, IsTyped, IsTypedBlock, types_of}
 use Rattle.dl_instr.specs.declared.steps.Step.{Step}
-use Rattle.dl_instr.specs.declared.steps.Step.TheVariants.{Read, Want, Set, Drop, Make, Eval, Write, Test, Jump, Give}
+use Rattle.dl_instr.specs.declared.steps.Step.TheVariants.{Read, Want, Set, Drop, Make, Eval, Write, Emit, Test, Jump, Give}
 use Rattle.dl_instr.specs.declared.steps.Origin.TheVariants as origins
 use Rattle.dl_instr.specs.declared.steps.Content.{Content}
 use Rattle.dl_instr.specs.declared.steps.Content.TheVariants as contents
@@ -49,6 +49,7 @@ module _ (source : Module) (types : List Ty) where
     sets_followed : {local other field kind : ℕ} → IsLocalOf types local kind → Moves (HasFollowed other field kind) (Set local origins.Hand) HandEmpty
     sets_new : {local kind : ℕ} → IsLocalOf types local kind → Moves (HasNew kind) (Set local origins.Hand) HandEmpty
     stores : {local field kind : ℕ} → IsLocalOf types local kind → HasFieldOf source kind field Int → Moves HasValue (Write local field contents.Number) HandEmpty
+    tells : Moves HasValue Emit HandEmpty
     joins : {local field kind target : ℕ} {content : Content} → IsLocalOf types local kind → HasFieldOf source kind field (Of target) → FitsContent source types (Of target) content
         → Moves (HasFollowed local field target) (Write local field content) HandEmpty
     copies : {local other kind : ℕ} → IsLocalOf types local kind → IsLocalOf types other kind → Moves HandEmpty (Set local (origins.Local other)) HandEmpty
@@ -280,6 +281,7 @@ module _ (source : Module) (types : List Ty) where
     part_of (typed.choose {c} {first = block} fits some (typed.more {d} {ds} d_is ds_is)) first =
         rolled (Stmt-F.If c block (d ∷ ds)) _ (variants.rolls-If c block (d ∷ ds)) first (part_if_else c (block_code block) (block_code (d ∷ ds)) (block_part some) (block_part (typed.more d_is ds_is)) first)
     part_of (typed.while {c} {body} fits some) first = rolled (Stmt-F.While c body) _ (variants.rolls-While c body) first (part_while c (block_code body) (block_part some) first)
+    part_of (typed.emit {e} fits) first = rolled (Stmt-F.Emit e) _ (variants.rolls-Emit e) first (straight first _ (HasValue, evals, (HandEmpty, tells, refl)) (refl, (refl, tt)))
     part_of (typed.return {e} fits) first = rolled (Stmt-F.Return e) _ (variants.rolls-Return e) first (straight first _ (HandEmpty, gives, refl) (refl, tt))
 
     pub block_part : {block : List Stmt} → IsTypedBlock source types block → (first : ℕ) → IsPart first (block_code block first)

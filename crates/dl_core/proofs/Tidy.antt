@@ -1,7 +1,6 @@
 -- Loose objects are held, and each stands in the list once: so there are no more of them than are held.
-use Rattle.std.proofs.Common.{◌≡◌, ◌≢◌, ◌⊎◌, inl, inr, ℕ, ◌+◌, ◌-◌, ◌<◌, ◌≤◌, Bool, true, false, cond, List, [], ◌∷◌, ◌++◌, length, Option, Some, None, refl, sym, ap, subst, ◌∙◌, arith}
-use Rattle.std.specs.Prelude.{is_some, nat_le, ◌==◌, ◌&&◌, ◌||◌, not, if◌then◌else◌}
-use Rattle.std.specs.List.{list_any}
+use Rattle.std.proofs.Common.{◌≡◌, ◌≢◌, ◌⊎◌, inl, inr, ℕ, ◌-◌, ◌<◌, ◌≤◌, Bool, true, false, cond, List, [], ◌∷◌, ◌++◌, length, Option, Some, None, refl, sym, ap, subst, ◌∙◌, arith}
+use Rattle.std.specs.Prelude.{is_some, nat_le, ◌==◌, ◌&&◌, ◌||◌, not}
 use Rattle.std.specs.Option.{option_map_or}
 use Rattle.std.specs.FinMap as finite
 use Rattle.std.specs.FinMap.{len-remove, empty_of_len, get-empty}
@@ -11,7 +10,7 @@ use Rattle.dl_ir.specs.Heap.{name_cmp}
 use Rattle.dl_ir.specs.References.{name_eq}
 use Rattle.dl_core.specs.declared.stages.Booked.{Booked}
 use Rattle.dl_core.specs.Heaps.{put_at}
-use Rattle.dl_core.specs.Frames.{Frame, Book, has_booked, is_among, is_to_loosen, locals_to}
+use Rattle.dl_core.specs.Frames.{Frame, Book, is_among, is_to_loosen, locals_to}
 use Rattle.dl_core.specs.Shown.{AreTidy, IsTidy}
 use Rattle.dl_core.proofs.Maps.{names, get_there}
 use Rattle.dl_core.proofs.Names.{name_itself, same_named, no_bool, both_true}

@@ -1,5 +1,5 @@
 -- Why an event comes next: what holds of a frame at which it does.
-use Rattle.std.proofs.Common.{◌≡◌, ◌⊎◌, inl, inr, ℕ, ℤ, ◌-◌, ◌<◌, Bool, true, false, List, [], ◌∷◌, Option, Some, None, refl, arith}
+use Rattle.std.proofs.Common.{◌≡◌, ◌⊎◌, inl, inr, ℕ, ℤ, ◌-◌, ◌<◌, Bool, true, false, List, [], ◌∷◌, Option, Some, None, refl, arith, length}
 use Rattle.std.specs.Prelude.{slice_get, nat_lt, nat_le, ◌==◌, ◌&&◌, ◌||◌, Ok, Err, if◌then◌else◌}
 use Rattle.std.specs.FinMap as finite
 use Rattle.std.proofs.lemmas.Bool.Decides.{nat_tests}
@@ -11,7 +11,7 @@ use Rattle.dl_ir.specs.declared.names.Value.TheVariants.{Ref}
 use Rattle.dl_ir.specs.Evaluation.{Number, Truth, value_of, holds_of}
 use Rattle.dl_ir.specs.References.{target_in}
 use Rattle.dl_instr.specs.declared.steps.Step.{Step}
-use Rattle.dl_instr.specs.declared.steps.Step.TheVariants.{Read, Want, Set, Drop, Make, Eval, Write, Test, Jump, Give}
+use Rattle.dl_instr.specs.declared.steps.Step.TheVariants.{Read, Want, Set, Drop, Make, Eval, Write, Emit, Test, Jump, Give}
 use Rattle.dl_instr.specs.declared.steps.Origin.TheVariants as origins
 use Rattle.dl_instr.specs.declared.steps.Content.{Content}
 use Rattle.dl_core.specs.declared.stages.Booked.{Booked}
@@ -21,7 +21,7 @@ use Rattle.dl_core.specs.Plans.{Plan, steps_of, allocs_of, roots_of, reference_f
 use Rattle.dl_core.specs.Frames.{Frame, advanced, ended, target_at, target_in_hand, has_booked}
 use Rattle.dl_core.specs.declared.dues.Due.{Due}
 use Rattle.dl_core.specs.declared.dues.Due.TheVariants.{Nothing, Reserves, TakesRoot, Enters, Reads, Writes, Takes, LetsGo, GivesUp, Seals, Makes, Finishes}
-use Rattle.dl_core.specs.LocalSteps.{Next, Goes, Stops, on_number, on_object, on_truth, on_wanted, on_test, next_step, next_target, next_value, next_field, next_loose, next_held, next_local, next_root, next_stage, next_after, next, next_name, due, due_in, first_referring, content_of}
+use Rattle.dl_core.specs.LocalSteps.{Next, Goes, Stops, on_number, on_object, on_truth, on_wanted, on_test, next_step, next_target, next_value, next_field, next_loose, next_held, next_local, next_root, next_stage, next_after, next, next_name, due, due_in, first_referring, content_of, given_out}
 
 -- the code runs, at this step
 pub record IsAtStep (plan : Plan) (frame : Frame) (step : Step) : Type 0 where
@@ -105,6 +105,7 @@ module _ (plan : Plan) (frame : Frame) where
       ] refl
   because_step (Some (Eval value)) at = because_number (value_of value frame.locals) _
   because_step (Some (Write local field content)) at = because_object (target_at frame local) refl (λ name. Writes name field (content_of content frame)) (λ name e. writes_code local field content name (at _ refl) e)
+  because_step (Some Emit) at = elim (nat_le 16 (length frame.emitted)) as (λ b. Because plan frame (if b then Goes (ended ends.Emits frame) else Goes (given_out frame))) [ true ↦ tt | false ↦ tt ]
   because_step (Some (Test c is_turn place)) at = because_test is_turn place (holds_of c frame.locals)
   because_step (Some (Jump place)) at = tt
   because_step (Some (Give value)) at = because_number (value_of value frame.locals) _

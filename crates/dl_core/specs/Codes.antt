@@ -9,7 +9,7 @@ use Rattle.dl_ir.specs.declared.modules.Ty.TheVariants.{Int, Of}
 use Rattle.dl_ir.specs.Heap.{IsNodeKind}
 use Rattle.dl_ir.specs.Typed.{IsNumberLocal, IsLocalOf, HasFieldOf, types_of}
 use Rattle.dl_instr.specs.declared.steps.Step.{Step}
-use Rattle.dl_instr.specs.declared.steps.Step.TheVariants.{Read, Want, Set, Drop, Make, Eval, Write, Give}
+use Rattle.dl_instr.specs.declared.steps.Step.TheVariants.{Read, Want, Set, Drop, Make, Eval, Write, Emit, Give}
 use Rattle.dl_instr.specs.declared.steps.Origin.TheVariants as origins
 use Rattle.dl_instr.specs.declared.steps.Content.{Content}
 use Rattle.dl_instr.specs.declared.steps.Content.TheVariants as contents
@@ -35,6 +35,7 @@ module _ (source : Module) (types : List Ty) where
     make : {kind : ℕ} → IsNodeKind source kind → IsTypedStep (Make kind)
     write : {local field kind : ℕ} {ty : Ty} {content : Content} → IsLocalOf types local kind → HasFieldOf source kind field ty → FitsContent ty content → IsTypedStep (Write local field content)
     eval : {value : Expr} → IsTypedStep (Eval value)
+    emit : IsTypedStep Emit
     test : {step : Step} {place : ℕ} → jump_of step ≡ Some place → IsTypedStep step
     give : {value : Expr} → IsTypedStep (Give value)
 
@@ -55,6 +56,7 @@ module _ (source : Module) (types : List Ty) where
       made : (before : ℕ) {local kind : ℕ} → at ≡ before + 1 → slice_get steps before ≡ Some (Make kind) → IsLocalOf types local kind → IsFilledFor at (Set local origins.Hand)
       wanted : (before : ℕ) {local field kind : ℕ} → at ≡ before + 1 → IsReadAt before local field (Of kind) → IsFilledFor at Want
       stored : (before : ℕ) {local field : ℕ} {value : Expr} → at ≡ before + 1 → slice_get steps before ≡ Some (Eval value) → IsFilledFor at (Write local field contents.Number)
+      told : (before : ℕ) {value : Expr} → at ≡ before + 1 → slice_get steps before ≡ Some (Eval value) → IsFilledFor at Emit
       linked : (before : ℕ) {local field kind : ℕ} {content : Content} → at ≡ before + 2 → IsReadAt before local field (Of kind) → slice_get steps (before + 1) ≡ Some Want
           → FitsContent (Of kind) content → IsFilledFor at (Write local field content)
 

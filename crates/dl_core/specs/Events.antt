@@ -99,7 +99,7 @@ made plan name kind frame =
 
 -- what a caller keeps of an operation that ended so
 abbrev pub finish_of : End → Frame → Finished
-finish_of end frame = record { index = frame.index; ticket = frame.ticket; answer = record { end = end; breach = frame.breach }; returned = frame.spares }
+finish_of end frame = record { index = frame.index; ticket = frame.ticket; answer = record { end = end; breach = frame.breach; emitted = frame.emitted }; returned = frame.spares }
 
 -- the operation is finished, and the caller has no call in hand
 abbrev pub finished : End → Frame → Frame

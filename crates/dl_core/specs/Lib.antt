@@ -2,7 +2,6 @@ pub mod Heaps
 pub mod Plans
 pub mod Frames
 pub mod Rooms
-pub mod Shown
 pub mod GoingOn
 pub mod Left
 pub mod LocalSteps
@@ -11,6 +10,8 @@ pub mod Events
 pub mod Steps
 pub mod Core
 pub mod Accounts
+pub mod Arguments
+pub mod Shown
 pub mod Reached
 pub mod Reach
 pub mod Changes

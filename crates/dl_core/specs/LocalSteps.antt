@@ -1,16 +1,16 @@
 -- What a caller does next: a local step, which changes its own frame alone, or an event.
-use Rattle.std.specs.Prelude.{◌≡◌, ◌+◌, ◌-◌, ◌==◌, ◌&&◌, ◌||◌, ℕ, ℤ, pos, Bool, true, false, Option, Some, None, Ok, Err, List, [], ◌∷◌, slice_get, nat_le, nat_lt, if◌then◌else◌}
+use Rattle.std.specs.Prelude.{◌≡◌, ◌+◌, ◌-◌, ◌==◌, ◌&&◌, ◌||◌, ◌++◌, length, ℕ, ℤ, pos, Bool, true, false, Option, Some, None, Ok, Err, List, [], ◌∷◌, slice_get, nat_le, nat_lt, if◌then◌else◌}
 use Rattle.std.specs.FinMap as finite
 use Rattle.dl_ir.specs.declared.answers.End.{End}
 use Rattle.dl_ir.specs.declared.answers.End.TheVariants as ends
 use Rattle.dl_ir.specs.declared.names.Name.{Name}
 use Rattle.dl_ir.specs.declared.names.Value.{Value}
 use Rattle.dl_ir.specs.declared.names.Value.TheVariants.{Int, Ref}
-use Rattle.dl_ir.specs.Evaluation.{Number, Truth, value_of, holds_of}
+use Rattle.dl_ir.specs.Evaluation.{Number, Truth, number_of, value_of, holds_of}
 use Rattle.dl_ir.specs.Meaning.{fault_end}
 use Rattle.dl_ir.specs.References.{target_in}
 use Rattle.dl_instr.specs.declared.steps.Step.{Step}
-use Rattle.dl_instr.specs.declared.steps.Step.TheVariants.{Read, Want, Set, Drop, Make, Eval, Write, Test, Jump, Give}
+use Rattle.dl_instr.specs.declared.steps.Step.TheVariants.{Read, Want, Set, Drop, Make, Eval, Write, Emit, Test, Jump, Give}
 use Rattle.dl_instr.specs.declared.steps.Origin.TheVariants as origins
 use Rattle.dl_instr.specs.declared.steps.Content.{Content}
 use Rattle.dl_instr.specs.declared.steps.Content.TheVariants as contents
@@ -64,6 +64,14 @@ content_of contents.Null frame = Ref None
 abbrev pub next_name : Frame → Name
 next_name frame = record { ticket = frame.ticket; index = frame.made + 1 }
 
+-- the number in the hand is given out, behind those given out before
+abbrev pub given_out : Frame → Frame
+given_out frame = advanced (with_hand None (record frame { emitted = frame.emitted ++ number_of frame.hand ∷ [] }))
+
+-- a number is given out, or the operation ends where it has given out 16
+abbrev pub on_emit : Frame → Next
+on_emit frame = if nat_le 16 (length frame.emitted) then Goes (ended ends.Emits frame) else Goes (given_out frame)
+
 -- what comes next at a step of the code. There is always one: no path leads past the last
 abbrev pub next_step : Plan → Frame → Option Step → Next
 next_step plan frame None = Goes (ended (ends.Ok (pos 0)) frame)
@@ -75,6 +83,7 @@ next_step plan frame (Some (Drop local)) = Goes (assigned local (Ref None) (adva
 next_step plan frame (Some (Make kind)) = if nat_le (allocs_of plan frame.call) frame.made then Goes (ended ends.Quota frame) else Stops (Makes (next_name frame) kind)
 next_step plan frame (Some (Eval value)) = on_number (value_of value frame.locals) frame (λ n. advanced (with_hand (Some (Int n)) frame))
 next_step plan frame (Some (Write local field content)) = on_object (target_at frame local) frame (λ name. Writes name field (content_of content frame))
+next_step plan frame (Some Emit) = on_emit frame
 next_step plan frame (Some (Test c is_turn place)) = on_test is_turn frame (λ taken. on_truth (holds_of c frame.locals) place taken)
 next_step plan frame (Some (Jump place)) = Goes (gone_to place frame)
 next_step plan frame (Some (Give value)) = on_number (value_of value frame.locals) frame (λ n. ended (ends.Ok n) frame)

@@ -1,12 +1,16 @@
 -- A frame as the program keeps it, and the frame that it is.
-use Rattle.std.specs.Prelude.{◌≡◌, ◌<◌, ◌≤◌, ◌^◌, ℕ, Bool, true, false, Option, Some, None, List, [], ◌∷◌, length, slice_get}
+use Rattle.std.specs.Prelude.{◌≡◌, ◌+◌, ◌<◌, ◌≤◌, ◌^◌, ℕ, true, false, Option, Some, None, List, [], ◌∷◌, length, map, slice_get, get_or}
 use Rattle.std.specs.FinMap as finite
 use Rattle.dl_ir.specs.declared.answers.End.TheVariants as ends
+use Rattle.dl_ir.specs.declared.answers.Entry.{Entry}
+use Rattle.dl_ir.specs.declared.answers.Refusal.{Refusal}
 use Rattle.dl_ir.specs.declared.names.Name.{Name}
 use Rattle.dl_ir.specs.declared.modules.KindDecl.{KindDecl}
 use Rattle.dl_instr.specs.declared.code.Code.{Code}
 use Rattle.dl_core.specs.declared.dues.Due.{Due}
+use Rattle.dl_core.specs.declared.stages.Booked.{Booked}
 use Rattle.dl_core.specs.declared.frames.Frame.{Frame as Kept}
+use Rattle.dl_core.specs.Accounts.{finished_in}
 use Rattle.dl_core.specs.Rooms.{Roomed}
 use Rattle.dl_core.specs.Plans.{Plan, steps_of, roots_of}
 use Rattle.dl_core.specs.Frames.{Frame, Book, has_booked, is_among, ended}
@@ -25,27 +29,59 @@ shown kept = record {
   hand = kept.hand;
   turns = kept.turns;
   made = kept.made;
-  emitted = [];
+  emitted = kept.emitted;
   spares = kept.spares;
   book = kept.book.rows;
   loose = kept.loose.items;
   cursor = kept.cursor;
   seen = kept.seen;
   breach = kept.breach;
-  finished = kept.finished.items;
+  finished = map finished_in kept.entries.items;
 }
 
--- the memory of a frame, and the roots of the call in hand
+-- what no local step changes: the memory of a frame, the roots of the call in hand, and what is kept of the caller's operations
 pub record Rooms : Type 0 where
   pub args : ℕ
   pub roots : Roomed ℕ
   pub locals : ℕ
   pub book : ℕ
   pub loose : ℕ
-  pub finished : ℕ
+  pub reserved_at : ℕ
+  pub entries : Roomed Entry
+  pub refusals : Roomed Refusal
 
 abbrev pub rooms_of : Kept → Rooms
-rooms_of kept = record { args = kept.args.room; roots = kept.roots; locals = kept.locals.room; book = kept.book.room; loose = kept.loose.room; finished = kept.finished.room }
+rooms_of kept = record {
+  args = kept.args.room;
+  roots = kept.roots;
+  locals = kept.locals.room;
+  book = kept.book.room;
+  loose = kept.loose.room;
+  reserved_at = kept.reserved_at;
+  entries = kept.entries;
+  refusals = kept.refusals;
+}
+
+-- the memory of a frame
+pub record Memory : Type 0 where
+  pub args : ℕ
+  pub roots : ℕ
+  pub locals : ℕ
+  pub book : ℕ
+  pub loose : ℕ
+  pub entries : ℕ
+  pub refusals : ℕ
+
+abbrev pub memory_of : Kept → Memory
+memory_of kept = record {
+  args = kept.args.room;
+  roots = kept.roots.room;
+  locals = kept.locals.room;
+  book = kept.book.room;
+  loose = kept.loose.room;
+  entries = kept.entries.room;
+  refusals = kept.refusals.room;
+}
 
 -- another of the held objects can become loose
 abbrev pub HasSpace : Kept → Type 0
@@ -86,3 +122,11 @@ pub record CanGoOn (code : Code) (kept : Kept) : Type 0 where
   pub locals : length kept.locals.items < 2 ^ 32
   pub roots : (plan : Plan) → plan.code ≡ code → kept.roots.items ≡ roots_of plan (shown kept).call
   pub turns : (plan : Plan) → plan.code ≡ code → GoesBackToTurns (steps_of plan (shown kept).call)
+
+-- a field more that refers to a held object can be counted
+abbrev pub HasFewRefs : Kept → Type 0
+HasFewRefs kept = (name : Name) (booked : Booked) → finite.get kept.book.rows name ≡ Some booked → booked.fields + 1 < 2 ^ 32
+
+-- the code of each operation goes back to loops' tests alone
+abbrev pub HasTurns : Code → Type 0
+HasTurns code = (op : ℕ) → GoesBackToTurns (get_or code.ops op [])

@@ -21,7 +21,7 @@ use Rattle.dl_meaning.specs.Fitting.{HoldsType}
 use Rattle.dl_shape.specs.Pool.{moves_of, versions_of, free_at, IsDue, AreBelow}
 use Rattle.dl_shape.specs.Replay.{greatest_ticket}
 use Rattle.dl_instr.specs.declared.steps.Step.{Step}
-use Rattle.dl_instr.specs.declared.steps.Step.TheVariants.{Read, Want, Set, Write}
+use Rattle.dl_instr.specs.declared.steps.Step.TheVariants.{Read, Want, Set, Write, Emit}
 use Rattle.dl_instr.specs.declared.steps.Origin.TheVariants as origins
 use Rattle.dl_instr.specs.declared.steps.Content.TheVariants as contents
 use Rattle.dl_instr.specs.Drops.{is_use}
@@ -104,6 +104,7 @@ HandBefore plan heap caller frame op (Some Want) = IsAfterRead plan heap caller 
 HandBefore plan heap caller frame op (Some (Set local origins.Hand)) = HasValueFor plan heap caller frame op local
 HandBefore plan heap caller frame op (Some (Write local field contents.Number)) = (n : ℤ) × (frame.hand ≡ Some (Int n))
 HandBefore plan heap caller frame op (Some (Write local field content)) = IsFieldInHand heap caller frame local field × HoldsHand heap caller frame
+HandBefore plan heap caller frame op (Some Emit) = (n : ℤ) × (frame.hand ≡ Some (Int n))
 HandBefore plan heap caller frame op step = frame.hand ≡ None
 
 -- what the hand holds of the object that is being given up

@@ -32,13 +32,15 @@ end_parts ends.Overflow = Some (inr (inr 0))
 end_parts ends.DivZero = Some (inr (inr 1))
 end_parts ends.Fuel = Some (inr (inr 2))
 end_parts ends.Quota = Some (inr (inr 3))
+end_parts ends.Emits = Some (inr (inr 4))
 end_parts (ends.Sealed name) = Some (inr (inl name))
 
 abbrev pub end_numbered : ℕ → End
 end_numbered zero = ends.Overflow
 end_numbered (suc zero) = ends.DivZero
 end_numbered (suc (suc zero)) = ends.Fuel
-end_numbered (suc (suc (suc n))) = ends.Quota
+end_numbered (suc (suc (suc zero))) = ends.Quota
+end_numbered (suc (suc (suc (suc n)))) = ends.Emits
 
 abbrev pub end_of_parts : Option (ℤ ⊎ (Name ⊎ ℕ)) → End
 end_of_parts None = ends.Null
@@ -53,13 +55,15 @@ same_end ends.Overflow = refl
 same_end ends.DivZero = refl
 same_end ends.Fuel = refl
 same_end ends.Quota = refl
+same_end ends.Emits = refl
 same_end (ends.Sealed name) = refl
 
 abbrev pub coded_end : Coded End
 coded_end = code_by (Option (ℤ ⊎ (Name ⊎ ℕ))) (coded_option (coded⊎ coded_ℤ (coded⊎ coded_name coded_ℕ))) end_parts end_of_parts same_end
 
 abbrev pub coded_answer : Coded Answer
-coded_answer = code_by (End × Option Name) (coded× coded_end (coded_option coded_name)) (λ a. (a.end, a.breach)) (λ p. record { end = p.0; breach = p.1 }) (λ _. refl)
+coded_answer = code_by (End × (Option Name × List ℤ)) (coded× coded_end (coded× (coded_option coded_name) (coded_list coded_ℤ))) (λ a. (a.end, (a.breach, a.emitted)))
+    (λ p. record { end = p.0; breach = p.1.0; emitted = p.1.1 }) (λ _. refl)
 
 abbrev pub coded_call : Coded Call
 coded_call = code_by (ℕ × List ℤ) (coded× coded_ℕ (coded_list coded_ℤ)) (λ c. (c.op, c.args)) (λ p. record { op = p.0; args = p.1 }) (λ _. refl)

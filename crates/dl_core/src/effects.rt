@@ -1,27 +1,29 @@
 ghost use Rattle.std.specs.Prelude.{◌≡◌, ℕ, ◌+◌, ◌<◌, ◌^◌, None, Some, [], slice_get};
 ghost use Rattle.std.specs.FinMap as finite;
 ghost use Rattle.dl_ir.specs.References.{target_in as target_of_value};
-ghost use Rattle.dl_core.specs.declared.stages.Booked.{Booked};
-ghost use Rattle.dl_core.specs.Frames.{Frame as Pure, lowered, raised, with_booked, without_booked};
-ghost use Rattle.dl_core.specs.Events.{moved_on, moved_past, seen_by, or_first, has_read as reads, took as takes, saw_sealed as sees, let_go as lets_go, gave_up as gives_up, sealed as seals, made as makes, took_root as takes_root, reserved as reserves};
+ghost use Rattle.dl_instr.specs.declared.code.Code.{Code};
+ghost use Rattle.dl_core.specs.Frames.{lowered, raised, target_in_hand, with_booked, without_booked};
+ghost use Rattle.dl_core.specs.Events.{moved_on, moved_past, seen_by, or_first, has_read as reads, wrote as writes, took as takes, saw_sealed as sees, let_go as lets_go, gave_up as gives_up, sealed as seals, made as makes, took_root as takes_root, reserved as reserves};
 ghost use Rattle.dl_core.specs.Plans.{Plan};
-ghost use Rattle.dl_core.specs.Shown.{shown, rooms_of, CanGoOn};
+ghost use Rattle.dl_core.specs.Shown.{shown, rooms_of, CanGoOn, HasFewRefs};
 
-use crate::bits::end;
-use crate::frames::Frame;
+use crate::bits::{end, loosen, target_held};
+use crate::frames::{Frame, target_in};
 use crate::ready::make_ready;
+use crate::recounts::{lower, raise};
 use crate::stages::Booked;
 use dl_instr::Code;
 use dl_ir::{End, Name, Value};
 
 // The code goes on, unless a loose object is worked off.
 fn move_on(frame: &mut Frame)
-    requires { frame.old.place + 1 < 2 ^ 64 }
+    requires { frame.old.loose.items ≡ [] → frame.old.place + 1 < 2 ^ 64 }
     ensures shown { shown frame.new ≡ moved_on frame.old.loose.items (shown frame.old) }
     ensures rooms { rooms_of frame.new ≡ rooms_of frame.old }
 {
-    if frame.loose.get(0).is_none() {
-        frame.place += 1;
+    match frame.loose.get(0) {
+        None => frame.place += 1,
+        Some(_) => {}
     }
 }
 
@@ -45,7 +47,7 @@ fn release(frame: &mut Frame, name: Name)
 /// A field was found to hold this value.
 pub fn has_read(code: &Code, value: Value, frame: &mut Frame)
     requires can { CanGoOn code.now frame.old }
-    requires place { frame.old.place + 1 < 2 ^ 64 }
+    requires place { frame.old.loose.items ≡ [] → frame.old.place + 1 < 2 ^ 64 }
     ensures can { CanGoOn code.now frame.new }
     ensures shown { (plan : Plan) → plan.code ≡ code.now → shown frame.new ≡ reads plan value (shown frame.old) }
     ensures rooms { rooms_of frame.new ≡ rooms_of frame.old }
@@ -55,10 +57,58 @@ pub fn has_read(code: &Code, value: Value, frame: &mut Frame)
     make_ready(code, frame);
 }
 
+// The code goes on, or the next field of the object that is being given up comes.
+fn move_past(field: u32, frame: &mut Frame)
+    requires place { frame.old.loose.items ≡ [] → frame.old.place + 1 < 2 ^ 64 }
+    requires field { field + 1 < 2 ^ 32 }
+    ensures shown { shown frame.new ≡ moved_past frame.old.loose.items field (shown frame.old) }
+    ensures rooms { rooms_of frame.new ≡ rooms_of frame.old }
+{
+    match frame.loose.get(0) {
+        None => frame.place += 1,
+        Some(_) => {
+            frame.cursor = field + 1;
+            frame.seen = false;
+        }
+    }
+}
+
+// One field less refers to what the hand refers to, and one more to the object of the value.
+fn recount(field: u32, value: Value, frame: &mut Frame)
+    requires place { frame.old.loose.items ≡ [] → frame.old.place + 1 < 2 ^ 64 }
+    requires field { field + 1 < 2 ^ 32 }
+    requires few { HasFewRefs frame.old }
+    ensures can { (code : Code) → CanGoOn code frame.old → CanGoOn code frame.new }
+    ensures shown { shown frame.new ≡ moved_past frame.old.loose.items field (record (shown frame.old) { hand = None; book = raised (target_of_value value) (lowered (target_in_hand (shown frame.old)) frame.old.book.rows) }) }
+    ensures rooms { rooms_of frame.new ≡ rooms_of frame.old }
+{
+    let lost = target_held(frame);
+    frame.hand = None;
+    lower(lost, &mut frame.book);
+    raise(target_in(value), &mut frame.book);
+    move_past(field, frame);
+}
+
+/// A field got this value. Where it holds references, the hand has the old one.
+pub fn wrote(code: &Code, field: u32, value: Value, frame: &mut Frame)
+    requires can { CanGoOn code.now frame.old }
+    requires place { frame.old.loose.items ≡ [] → frame.old.place + 1 < 2 ^ 64 }
+    requires field { field + 1 < 2 ^ 32 }
+    requires few { HasFewRefs frame.old }
+    ensures can { CanGoOn code.now frame.new }
+    ensures shown { (plan : Plan) → plan.code ≡ code.now → shown frame.new ≡ writes plan field value (shown frame.old) }
+    ensures rooms { rooms_of frame.new ≡ rooms_of frame.old }
+{
+    let lost = target_held(frame);
+    recount(field, value, frame);
+    loosen(frame, lost);
+    make_ready(code, frame);
+}
+
 /// A hidden object of this kind was taken. It was free, so one field refers to it.
 pub fn took(code: &Code, name: Name, kind: u32, frame: &mut Frame)
     requires can { CanGoOn code.now frame.old }
-    requires place { frame.old.place + 1 < 2 ^ 64 }
+    requires place { frame.old.loose.items ≡ [] → frame.old.place + 1 < 2 ^ 64 }
     requires book { finite.len frame.old.book.rows < frame.old.book.room }
     requires loose { finite.len frame.old.book.rows < frame.old.loose.room }
     ensures can { CanGoOn code.now frame.new }

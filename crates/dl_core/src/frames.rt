@@ -3,10 +3,10 @@ ghost use Rattle.std.specs.List.{list_any};
 ghost use Rattle.dl_ir.specs.References.{refers_to as refers_in, target_in as target_of_value, name_eq};
 
 use crate::lists::Row;
-use crate::stages::{Booked, Finished, Stage};
-use dl_ir::{Name, Table, Value};
+use crate::stages::{Booked, Stage};
+use dl_ir::{Emits, Entry, Name, Refusal, Table, Value};
 
-/// What each caller has of its own.
+/// What each caller has of its own, and what the pool keeps of it.
 #[derive(Drop)]
 pub struct Frame {
     /// How far it has come with the call in hand.
@@ -31,6 +31,8 @@ pub struct Frame {
     pub turns: u32,
     /// How many objects the operation has made.
     pub made: u32,
+    /// The numbers that the operation has given out.
+    pub emitted: Emits,
     /// Places that are reserved and not used.
     pub spares: u32,
     pub book: Table<Booked>,
@@ -42,8 +44,11 @@ pub struct Frame {
     pub seen: bool,
     /// The first object that the operation sealed.
     pub breach: Option<Name>,
-    /// The operations that the caller has finished.
-    pub finished: Row<Finished>,
+    /// The version that the reservation of the call in hand made; 0 where there was none.
+    pub reserved_at: u64,
+    /// The operations that the caller has finished, and its refusals, in order.
+    pub entries: Row<Entry>,
+    pub refusals: Row<Refusal>,
 }
 
 /// Whether two names are the same.

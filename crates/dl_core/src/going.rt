@@ -2,9 +2,9 @@ ghost use Rattle.std.specs.Prelude.{◌≡◌, ◌+◌, ◌<◌, ◌^◌, None, 
 ghost use Rattle.std.specs.Option.{option_copied};
 ghost use Rattle.std.specs.FinMap as finite;
 ghost use Rattle.dl_ir.specs.Meaning.{fault_end};
-ghost use Rattle.dl_ir.specs.Evaluation.{holds_of};
+ghost use Rattle.dl_ir.specs.Evaluation.{holds_of, number_of};
 ghost use Rattle.dl_core.specs.Frames.{is_to_loosen as to_loosen, has_booked as booked_in, loosened, assigned, ended, advanced, gone_to, with_hand, value_in_hand, target_at, target_in_hand};
-ghost use Rattle.dl_core.specs.LocalSteps.{on_wanted, on_test, on_truth, on_number, next_step, content_of as content_in};
+ghost use Rattle.dl_core.specs.LocalSteps.{on_emit, on_wanted, on_test, on_truth, on_number, next_step, content_of as content_in};
 ghost use Rattle.dl_core.specs.Plans.{Plan, allocs_of};
 ghost use Rattle.dl_core.specs.Shown.{shown, shown_at, rooms_of, HasSpace, after};
 
@@ -159,6 +159,32 @@ fn make(kind: u32, allocs: u32, frame: &mut Frame) -> Option<Due>
     Some(Due::Makes { name, kind })
 }
 
+// The number in the hand; 0 where it holds none.
+fn number_in(hand: Option<Value>) -> i64
+    ensures { result ≡ number_of hand }
+{
+    match hand {
+        Some(Value::Int(number)) => number,
+        _ => 0,
+    }
+}
+
+// `emit`
+fn emit(frame: &mut Frame) -> Option<Due>
+    requires place { frame.old.place + 1 < 2 ^ 64 }
+    ensures next { (result, shown frame.new) ≡ after (on_emit (shown frame.old)) (shown frame.old) }
+    ensures rooms { rooms_of frame.new ≡ rooms_of frame.old }
+{
+    if frame.emitted.is_full() {
+        end(frame, End::Emits);
+        return None;
+    }
+    frame.emitted.push(number_in(frame.hand));
+    frame.hand = None;
+    frame.place += 1;
+    None
+}
+
 // What comes next at a step of the code; a local step is carried out.
 pub fn go_step(step: &Step, allocs: u32, frame: &mut Frame) -> Option<Due>
     requires place { frame.old.place + 1 < 2 ^ 64 }
@@ -196,6 +222,7 @@ pub fn go_step(step: &Step, allocs: u32, frame: &mut Frame) -> Option<Due>
                 value,
             })
         }
+        Step::Emit => emit(frame),
         Step::Test {
             cond,
             is_turn,

@@ -2,9 +2,9 @@
 //! callers share and to the caller that makes it. `docs/SEMANTICS.md` tells the rules.
 #![tactic(auto)]
 
-mod accounts;
 mod answers;
 mod bits;
+mod calls;
 mod codes;
 mod dues;
 mod effects;
@@ -19,6 +19,7 @@ mod objects;
 mod ready;
 mod recounts;
 mod rests;
+mod roots;
 mod stages;
 
 pub use answers::{Event, Lock, Progress};

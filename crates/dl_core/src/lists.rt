@@ -1,7 +1,9 @@
-ghost use Rattle.std.specs.Prelude.{◌≡◌, ◌<◌, ◌++◌, [], ◌∷◌, length, IfOk, option_map, slice_get, slice_set};
+// Lists with memory for a number of elements.
+ghost use Rattle.std.specs.Prelude.{◌≡◌, ◌<◌, ◌++◌, [], ◌∷◌, ◌≤◌, length, IfOk, insert, slice_get, slice_set};
 ghost use Rattle.std.specs.Option.{option_copied};
 ghost use Rattle.dl_core.specs.Frames.{behind_of};
 
+use sqlite_items::Items;
 use std::alloc::{AllocError, Global};
 use std::marker::Model;
 
@@ -96,5 +98,38 @@ impl<T: Drop> Row<T> {
         ensures { self.new ≡ record self.old { items = [] } }
     {
         self.items.clear();
+    }
+
+    /// Puts an element before the one at a place, or behind the last.
+    pub fn insert(&mut self, at: usize, item: T)
+        requires room { length self.old.items < self.old.room }
+        requires at { at ≤ length self.old.items }
+        ensures { self.new ≡ record self.old { items = insert self.old.items at item } }
+    {
+        match self.items.insert(at, item) {
+            Ok(()) => {}
+            Err(_) => unreachable!(),
+        }
+    }
+
+    /// The elements, in order.
+    pub fn into_items(self) -> Items<T>
+        ensures { result ≡ self.items }
+    {
+        let Row { items, room: _ } = self;
+        Items::from_vec(items)
+    }
+}
+
+impl<T: Copy + Drop> Row<T> {
+    /// Puts these elements in the place of those that are there.
+    pub fn refill(&mut self, items: &[T])
+        requires { length items.now ≤ self.old.room }
+        ensures { self.new ≡ record self.old { items = items.now } }
+    {
+        self.clear();
+        for item in items {
+            self.push(*item);
+        }
     }
 }

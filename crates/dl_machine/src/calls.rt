@@ -30,14 +30,14 @@ pub fn call<R: Wait, G: Ground, T: Gate>(
     ground.begin(pass, call);
     for _ in rt.forever() {
         let last = ground.advance(pass);
-        match last {
+        match &last {
             Progress::Moved(_) => {
                 gate.pass(caller, &last);
                 backoff.reset();
             }
             Progress::Done { entry } => {
                 gate.pass(caller, &last);
-                return Reply::Answered { entry };
+                return Reply::Answered { entry: *entry };
             }
             Progress::Refused {
                 need,
@@ -46,9 +46,9 @@ pub fn call<R: Wait, G: Ground, T: Gate>(
             } => {
                 gate.pass(caller, &last);
                 return Reply::NoRoom {
-                    need,
-                    found,
-                    version,
+                    need: *need,
+                    found: *found,
+                    version: *version,
                 };
             }
             Progress::Waiting { .. } | Progress::Looked { .. } | Progress::Raced { .. } => {

@@ -1,5 +1,5 @@
 -- A caller that has entered always has a step that comes next.
-use Rattle.std.proofs.Common.{◌≡◌, ℕ, ℤ, ◌-◌, true, false, List, [], ◌∷◌, Option, Some, None, refl}
+use Rattle.std.proofs.Common.{◌≡◌, ℕ, ℤ, ◌-◌, true, false, List, [], ◌∷◌, Option, Some, None, refl, length}
 use Rattle.std.specs.Prelude.{slice_get, nat_lt, nat_le, ◌==◌, ◌&&◌, ◌||◌, Ok, Err, if◌then◌else◌}
 use Rattle.std.specs.FinMap as finite
 use Rattle.dl_ir.specs.declared.answers.End.{End}
@@ -10,7 +10,7 @@ use Rattle.dl_ir.specs.declared.names.Value.TheVariants.{Ref}
 use Rattle.dl_ir.specs.Evaluation.{Number, Truth, value_of, holds_of}
 use Rattle.dl_ir.specs.References.{target_in}
 use Rattle.dl_instr.specs.declared.steps.Step.{Step}
-use Rattle.dl_instr.specs.declared.steps.Step.TheVariants.{Read, Want, Set, Drop, Make, Eval, Write, Test, Jump, Give}
+use Rattle.dl_instr.specs.declared.steps.Step.TheVariants.{Read, Want, Set, Drop, Make, Eval, Write, Emit, Test, Jump, Give}
 use Rattle.dl_instr.specs.declared.steps.Origin.TheVariants as origins
 use Rattle.dl_core.specs.declared.stages.Booked.{Booked}
 use Rattle.dl_core.specs.declared.stages.Stage.{Stage}
@@ -19,7 +19,7 @@ use Rattle.dl_core.specs.Plans.{Plan, steps_of, allocs_of, reference_from}
 use Rattle.dl_core.specs.Frames.{Frame, advanced, ended, target_at, target_in_hand, has_booked}
 use Rattle.dl_core.specs.declared.dues.Due.{Due}
 use Rattle.dl_core.specs.declared.dues.Due.TheVariants.{Takes, Writes, Makes, LetsGo}
-use Rattle.dl_core.specs.LocalSteps.{next_name, Next, Goes, Stops, on_number, on_object, on_truth, on_wanted, next_step, next_target, next_value, next_field, next_loose, next_held, next_local, next_stage, next_after, next, step_in, due_in, due, first_referring, IsReady}
+use Rattle.dl_core.specs.LocalSteps.{given_out, next_name, Next, Goes, Stops, on_number, on_object, on_truth, on_wanted, next_step, next_target, next_value, next_field, next_loose, next_held, next_local, next_stage, next_after, next, step_in, due_in, due, first_referring, IsReady}
 use Rattle.dl_core.specs.Steps.{Nowhere, Inside, At}
 use Rattle.dl_core.specs.Core.{aim_of}
 
@@ -61,6 +61,7 @@ module _ (plan : Plan) (frame : Frame) where
   at_a_step (Some (Make kind)) = elim (nat_le (allocs_of plan frame.call) frame.made) as (λ b. Moving (if b then Goes (ended ends.Quota frame) else Stops (Makes (next_name frame) kind))) [ true ↦ tt | false ↦ at_moves (next_name frame) ]
   at_a_step (Some (Eval value)) = on_a_number (value_of value frame.locals) _
   at_a_step (Some (Write local field content)) = on_an_object (target_at frame local) _ at_moves
+  at_a_step (Some Emit) = elim (nat_le 16 (length frame.emitted)) as (λ b. Moving (if b then Goes (ended ends.Emits frame) else Goes (given_out frame))) [ true ↦ tt | false ↦ tt ]
   at_a_step (Some (Test c false place)) = on_a_truth (holds_of c frame.locals) place frame
   at_a_step (Some (Test c true place)) =
       elim (frame.turns == 0) as (λ b. Moving (if b then Goes (ended ends.Fuel frame) else on_truth (holds_of c frame.locals) place (record frame { turns = frame.turns - 1 }))) [

@@ -9,7 +9,7 @@ use Rattle.dl_ir.specs.declared.objects.Obj.{Obj}
 use Rattle.dl_ir.specs.Heap.{IsHidden, root}
 use Rattle.dl_ir.specs.References.{target_in}
 use Rattle.dl_instr.specs.declared.steps.Step.{Step}
-use Rattle.dl_instr.specs.declared.steps.Step.TheVariants.{Read, Want, Set, Drop, Make, Eval, Write, Test, Jump, Give}
+use Rattle.dl_instr.specs.declared.steps.Step.TheVariants.{Read, Want, Set, Drop, Make, Eval, Write, Emit, Test, Jump, Give}
 use Rattle.dl_instr.specs.declared.steps.Origin.TheVariants as origins
 use Rattle.dl_instr.specs.declared.steps.Content.TheVariants as contents
 use Rattle.dl_core.specs.declared.dues.Due.{Due}
@@ -155,6 +155,7 @@ module _ (plan : Plan) (core : Core) (calls : Calls) (is : IsPlan plan) (kept : 
         by_step (Some (Write local field contents.Number)) h = number h.0 h.1
         by_step (Some (Write local field (contents.Local other))) h = held_there heap caller name (h.1 name holds)
         by_step (Some (Write local field contents.Null)) h = held_there heap caller name (h.1 name holds)
+        by_step (Some Emit) h = number h.0 h.1
         by_step (Some (Read local field)) h = empty h
         by_step (Some (Drop local)) h = empty h
         by_step (Some (Make kind)) h = empty h

@@ -13,7 +13,7 @@ use Rattle.dl_ir.specs.CallForms.{IsCallOf}
 use Rattle.dl_ir.specs.Cover.{call_at}
 use Rattle.dl_ir.specs.Heap.{Objects}
 use Rattle.dl_shape.specs.Closed.{AllEndInForest, IsForestClosed}
-use Rattle.dl_shape.specs.Operation.{operated, operated_where, body_outcome, first_locals}
+use Rattle.dl_shape.specs.Operation.{operated, operated_where, begun, body_outcome}
 use Rattle.dl_shape.specs.References.{IsForest}
 use Rattle.dl_shape.specs.Replay.{after_call, replayed, IsLegalFrom}
 use Rattle.dl_shape.specs.Settling.{trim}
@@ -55,7 +55,7 @@ found_unsealed : (source : Module) (heap : Objects) (ticket : ℕ) (arguments : 
 found_unsealed source heap ticket arguments None op e clean forest = absurd (no_some e)
 found_unsealed source heap ticket arguments (Some found) op e clean forest =
     settled_unsealed (body_outcome source heap ticket arguments found).state.objects forest
-    (block_keeps (record { source = source; ticket = ticket; allocs = found.allocs }) found.body (record { locals = first_locals found arguments; objects = heap; turns = found.fuel; made = 0 }) clean).unsealed
+    (block_keeps (record { source = source; ticket = ticket; allocs = found.allocs }) found.body (begun found arguments heap found.fuel) clean).unsealed
 
 module _ (source : Module) (files : List (List Call)) (fit : (caller index : ℕ) (call : Call) → call_at files caller index ≡ Some call → IsCallOf source call) where
   pub replay_unsealed : {ticket : ℕ} {heap : Objects} {history : List Entry} → NoneSealed heap → ((calls : List Call) → All (IsCallOf source) calls → AllEndInForest source ticket heap calls)

@@ -1,9 +1,9 @@
-use Rattle.std.proofs.Common.{refl, ap, sym, ◌∙◌}
+use Rattle.std.proofs.Common.{ap, ◌∙◌}
 use Rattle.dl_ir.specs.declared.names.Name.{Name}
 use Rattle.dl_core.specs.Rooms.{Roomed}
 use Rattle.dl_core.specs.Frames.{Frame}
-use Rattle.dl_core.specs.Shown.{shown, rooms_of}
-use Rattle.dl_core.proofs.Moves.{can_held, can_behind, can_alone, moved_alike}
+use Rattle.dl_core.specs.Shown.{rooms_of}
+use Rattle.dl_core.proofs.Moves.{can_behind}
 use Rattle.dl_core.proofs.effects.let_go.Goals as goal
 
 pub make_ready-requires : goal.make_ready-requires

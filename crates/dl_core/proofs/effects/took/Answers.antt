@@ -1,10 +1,8 @@
-use Rattle.std.proofs.Common.{refl, ap, sym, ◌∙◌}
-use Rattle.dl_ir.specs.declared.names.Name.{Name}
-use Rattle.dl_core.specs.Rooms.{Roomed}
+use Rattle.std.proofs.Common.{ap, ◌∙◌}
 use Rattle.std.specs.FinMap as finite
 use Rattle.dl_core.specs.Frames.{Frame, Book}
-use Rattle.dl_core.specs.Shown.{shown, rooms_of}
-use Rattle.dl_core.proofs.Moves.{can_held, can_behind, can_alone, moved_alike}
+use Rattle.dl_core.specs.Shown.{shown}
+use Rattle.dl_core.proofs.Moves.{can_held, moved_alike}
 use Rattle.dl_core.proofs.effects.took.Goals as goal
 
 pub make_ready-requires : goal.make_ready-requires

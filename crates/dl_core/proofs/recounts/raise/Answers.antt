@@ -1,4 +1,4 @@
-use Rattle.std.proofs.Common.{ℕ, ◌+◌, ap, ◌∙◌}
+use Rattle.std.proofs.Common.{◌+◌, ◌∙◌}
 use Rattle.dl_core.proofs.Moves.{recounts, recounts_none}
 use Rattle.dl_core.proofs.recounts.raise.Goals as goal
 

@@ -1,0 +1,12 @@
+use Rattle.std.proofs.Common.{◌≡◌, ◌++◌, ◌+◌, ◌≤◌, drop, map, length}
+use Rattle.dl_ir.specs.declared.modules.LocalDecl.{LocalDecl}
+use Rattle.dl_ir.specs.Heap.{blank}
+use Rattle.dl_shape.specs.Operation.{first_locals}
+use Rattle.dl_core.proofs.calls.first_locals.Given as goal
+
+abbrev pub invariant-loop-var : goal.invariant-loop-var
+invariant-loop-var l = record {
+  room : l.locals.room ≡ l.initial.locals.room;
+  few : length l.locals.items + length (drop l.var-index l.var-items) ≤ length l.op.params + length l.op.vars;
+  items : l.locals.items ++ map (λ (var : LocalDecl). blank var.ty) (drop l.var-index l.var-items) ≡ first_locals l.op l.args;
+}
