@@ -143,26 +143,30 @@ abbrev pub AreApart : List Account → Type 0
 AreApart [] = Unit {0}
 AreApart (a ∷ rest) = Every (λ b. 0 < a.number → a.number ≢ b.number) rest × AreApart rest
 
--- the seat j keeps the numbers of its accounts and those that it may deal out; without a number there is no list
-abbrev pub Owns : (ℕ → ℕ) → ℕ → Part → Type 0
-Owns owner j p =
+-- the seat j keeps the numbers of its accounts and those that it may deal out; without a number there is no list; and
+-- the callers have the numbers from 1 on
+abbrev pub Owns : ℕ → (ℕ → ℕ) → ℕ → Part → Type 0
+Owns callers owner j p =
     Every (λ a. (0 < a.number → owner a.number ≡ j) × (a.number ≡ 0 → a.events ≡ [])) (accounts p)
     × AreApart (accounts p)
     × (0 < p.dealing → ((c : ℕ) → p.dealing ≤ c → owner c ≡ j) × Every (λ a. a.number < p.dealing) (accounts p))
+    × (Every (λ a. a.number ≤ callers) (accounts p) × (p.dealing ≤ callers + 1))
 
 -- the rule, by the words and the pool's parts of all views
-pub record Kept (opening : ℕ) (l : Layout) (ws : List ℕ) (ps : List Part) : Type 0 where
+pub record Kept (opening callers : ℕ) (l : Layout) (ws : List ℕ) (ps : List Part) : Type 0 where
   pub laid : IsLaidOut l ws
   -- the versions 1 to the present one are made once each
   pub once : (x : ℕ) → total (makes x) ps ≡ once_to (version_of (slice_index ws 0)) x
   pub free : free_of (slice_index ws 0) + total took ps ≡ opening + total gave ps
+  -- at each version so far some number of places was free: never was more taken than there was
+  pub never_short : (u : ℕ) → u ≤ version_of (slice_index ws 0) → (n : ℕ) × WasFree opening ps u n
   pub bounded : version_of (slice_index ws 0) ≤ 8388608
   -- the vacant places are free, or spares of a seat
   pub states : vacant_in l ws ≡ free_of (slice_index ws 0) + spare ps
   pub fits : (j : ℕ) (p : Part) → get_elem? ps j ≡ some p → Fits opening ps (version_of (slice_index ws 0)) p
   -- each number is kept by one seat
   pub owner : ℕ → ℕ
-  pub owned : (j : ℕ) (p : Part) → get_elem? ps j ≡ some p → Owns owner j p
+  pub owned : (j : ℕ) (p : Part) → get_elem? ps j ≡ some p → Owns callers owner j p
 
-abbrev pub PoolKept : {S X : Type 0} → ℕ → Layout → State S (Member X) → Type 0
-PoolKept opening l s = Kept opening l s.words (parts s.views)
+abbrev pub PoolKept : {S X : Type 0} → ℕ → ℕ → Layout → State S (Member X) → Type 0
+PoolKept opening callers l s = Kept opening callers l s.words (parts s.views)
