@@ -11,13 +11,12 @@ use Rattle.dl_pool.specs.declared.views.Event.TheVariants.{Moved, Refused}
 use Rattle.dl_pool.specs.declared.views.Account.{Account}
 use Rattle.dl_pool.specs.declared.views.Part.{Part}
 use Rattle.dl_pool.specs.declared.views.Layout.{Layout}
-use Rattle.dl_pool.specs.Rule.{version_of, free_of, weigh, weigh_each, total, accounts, makes, once_to, up_to, Every, FitsList, Kept}
+use Rattle.dl_pool.specs.Rule.{version_of, free_of, weigh, weigh_each, total, accounts, makes, once_to, up_to, Every, FitsList, OwnsOne, Kept}
 use Rattle.dl_pool.specs.Log.{HasCaller, HasAllCallers, WholeLogs}
 use Rattle.dl_pool.proofs.Lists.{every_map}
 use Rattle.dl_pool.proofs.Weights.{held, all_moves, now_free}
 use Rattle.dl_pool.proofs.Moving.{same_stays, list_on}
 use Rattle.dl_pool.proofs.WordSteps.{list_up}
-use Rattle.dl_pool.proofs.SeatSteps.{OwnsOne}
 
 pub has_left : (c : ℕ) (xs ys : List Account) → HasCaller c xs → HasCaller c (xs ++ ys)
 has_left c [] ys h = absurd h

@@ -21,7 +21,7 @@ abbrev pub Stays : ℕ → List Part → List Part → ℕ → Type 0
 Stays opening ps qs now = (u n : ℕ) → u ≤ now → WasFree opening ps u n → WasFree opening qs u n
 
 says_on : (opening : ℕ) (ps qs : List Part) (now : ℕ) → Stays opening ps qs now → (e : Event) → version_at e ≤ now → Says opening ps e → Says opening qs e
-says_on opening ps qs now stays (Moved m) le h = tt
+says_on opening ps qs now stays (Moved m) le h = h
 says_on opening ps qs now stays (Refused r) le h = (h.0, stays r.version r.found le h.1)
 
 pub list_on : (opening : ℕ) (ps qs : List Part) (now known : ℕ) → Stays opening ps qs now → known ≤ now → (a : Account) → FitsList opening ps known a → FitsList opening qs known a

@@ -11,9 +11,8 @@ use Rattle.dl_pool.specs.declared.views.Event.TheVariants.{Moved, Refused}
 use Rattle.dl_pool.specs.declared.views.Account.{Account}
 use Rattle.dl_pool.specs.declared.views.Part.{Part}
 use Rattle.dl_pool.specs.declared.views.Layout.{Layout}
-use Rattle.dl_pool.specs.Rule.{version_of, weigh, weigh_each, total, accounts, makes, once_to, version_at, Every, Says, FitsList, Kept}
+use Rattle.dl_pool.specs.Rule.{version_of, weigh, weigh_each, total, accounts, makes, once_to, version_at, Every, Says, FitsList, OwnsOne, Kept}
 use Rattle.dl_pool.proofs.Weights.{held}
-use Rattle.dl_pool.proofs.SeatSteps.{OwnsOne}
 
 -- a view that has some of the weight
 heavier : (f : Move → ℕ) (ps : List Part) → 0 < total f ps → (j : ℕ) × (u : Part) × (get_elem? ps j ≡ some u) × (0 < held f u)

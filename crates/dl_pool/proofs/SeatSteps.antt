@@ -15,7 +15,7 @@ use Rattle.dl_pool.specs.declared.views.Seen.TheVariants.{Nothing}
 use Rattle.dl_pool.specs.declared.views.Part.{Part}
 use Rattle.dl_pool.specs.declared.views.Member.{Member}
 use Rattle.dl_pool.specs.declared.views.Layout.{Layout}
-use Rattle.dl_pool.specs.Rule.{version_of, part, parts, accounts, weigh, weigh_each, Every, FitsList, Fits, Owns, Kept, PoolKept}
+use Rattle.dl_pool.specs.Rule.{version_of, part, parts, accounts, weigh, weigh_each, Every, FitsList, Fits, OwnsOne, Owns, Kept, PoolKept}
 use Rattle.dl_pool.specs.Views.{member, note_part, dealt_part, dealing_on, learnt, joined, spent_part}
 use Rattle.dl_pool.specs.Steps.{IsNote}
 use Rattle.dl_pool.proofs.Lists.{every_map, every_both, every_append, apart_append}
@@ -99,10 +99,6 @@ dealt_here owner dealt id c e = ap (λ (b : Bool). cond b id (owner c)) (eq-eqb 
 
 dealt_there : (owner : ℕ → ℕ) (dealt id c : ℕ) → c ≢ dealt → dealt_to owner dealt id c ≡ owner c
 dealt_there owner dealt id c e = ap (λ (b : Bool). cond b id (owner c)) (ne_eqb c dealt e)
-
--- what the account of a number owes to the owner of numbers
-abbrev pub OwnsOne : (ℕ → ℕ) → ℕ → Account → Type 0
-OwnsOne owner j a = (0 < a.number → owner a.number ≡ j) × (a.number ≡ 0 → a.events ≡ [])
 
 -- numbers that keep their owner
 same_owner : (callers : ℕ) (owner after : ℕ → ℕ) (j : ℕ) (p : Part) → ((c : ℕ) → owner c ≡ j → after c ≡ j) → Owns callers owner j p → Owns callers after j p

@@ -1,5 +1,5 @@
 -- The pool rule is kept by each kind of step on the pool word, whatever the rest of the view becomes.
-use Rattle.std.proofs.Common.{◌≡◌, ℕ, ◌+◌, ◌-◌, ◌<◌, ◌≤◌, List, get_or, set, sym, refl, ap, ◌∙◌, subst, arith, get_or-set_same, length-set}
+use Rattle.std.proofs.Common.{◌≡◌, ℕ, ◌+◌, ◌-◌, ◌<◌, ◌≤◌, ◌⊎◌, inl, inr, List, get_or, set, sym, refl, ap, ◌∙◌, subst, arith, get_or-set_same, length-set}
 use mathlib.Core.Option.{Option, some}
 use lib.ListN.{get_elem?}
 use lib.Seq.{map-set}
@@ -97,9 +97,9 @@ module _ {S X : Type 0} (opening callers : ℕ) (l : Layout) (s : State S (Membe
 
   -- the seat makes a move
   moves : (k spares : ℕ) (m : Move) (seen : Seen) → 0 < v.pool.number → m.version ≡ version_of n + 1 → version_of k ≡ version_of n + 1 → version_of n < 8388608
-      → free_of k + m.taken ≡ free_of n + m.back → spares + m.back ≡ v.pool.spares + m.taken → ((w x : ℕ) → seen ≡ Load w x → ⊥)
+      → (m.taken ≡ 0) ⊎ (m.back ≡ 0) → free_of k + m.taken ≡ free_of n + m.back → spares + m.back ≡ v.pool.spares + m.taken → ((w x : ℕ) → seen ≡ Load w x → ⊥)
       → PoolKept opening callers l (after (set s.words 0 k) (record (stepping seen (writing (Moved m) v.pool)) { spares = spares }))
-  moves k spares m seen caller next ver more free enough look =
+  moves k spares m seen caller next ver more either free enough look =
       let q : Part = record (stepping seen (writing (Moved m) v.pool)) { spares = spares } in
       let known = (kept.fits id v.pool mine).0 in
       let is : get_or (set s.words 0 k) 0 0 ≡ k = word_after k in
@@ -109,14 +109,14 @@ module _ {S X : Type 0} (opening callers : ℕ) (l : Layout) (s : State S (Membe
       (vacant_pool l s.words k kept.laid)
       (λ f. let a = weigh_move f v.pool.events m in omega arith)
       (λ qs stays. let f = fits_on opening ps qs (version_of n) (version_of n) v.pool stays (omega arith) (kept.fits id v.pool mine) in
-      (omega arith, (λ w x e _. absurd (look w x e)), writes_fit opening qs v.pool (Moved m) (λ x le. omega arith) (omega arith) tt f.2))
+      (omega arith, (λ w x e _. absurd (look w x e)), writes_fit opening qs v.pool (Moved m) (λ x le. omega arith) (omega arith) either f.2))
       (λ owner h. writes_own callers owner id v.pool (Moved m) caller h) kept)
 
   pub reserved_kept : (need : ℕ) → 0 < v.pool.number → need ≤ free_of n → version_of n < 8388608 → PoolKept opening callers l (after (set s.words 0 (n + 16777216 - need)) (reserved need n v.pool))
   reserved_kept need caller room more =
       let next : version_of (n + 16777216 - need) ≡ version_of n + 1 = omega arith in
       let free : free_of (n + 16777216 - need) + need ≡ free_of n + 0 = omega arith in
-      moves (n + 16777216 - need) (v.pool.spares + need) record { version = version_of n + 1; taken = need; back = 0 } _ caller refl next more free (omega arith) (λ w x e. cc e)
+      moves (n + 16777216 - need) (v.pool.spares + need) record { version = version_of n + 1; taken = need; back = 0 } _ caller refl next more (inr refl) free (omega arith) (λ w x e. cc e)
 
   -- the addition makes one version more, and the places fit
   pub gave_fits : (count : ℕ) → count ≤ v.pool.spares → version_of (n + (16777216 + count)) ≡ version_of n + 1
@@ -130,4 +130,4 @@ module _ {S X : Type 0} (opening callers : ℕ) (l : Layout) (s : State S (Membe
       let few : v.pool.spares ≤ spare ps = spare_in ps id v.pool mine in
       let all : free_of n + spare ps ≤ 65536 = few_places opening callers l s.words ps kept in
       let free : free_of (n + (16777216 + count)) + 0 ≡ free_of n + count = omega arith in
-      moves (n + (16777216 + count)) (v.pool.spares - count) record { version = version_of n + 1; taken = 0; back = count } _ caller refl (gave_fits count enough) more free (omega arith) (λ w x e. cc e)
+      moves (n + (16777216 + count)) (v.pool.spares - count) record { version = version_of n + 1; taken = 0; back = count } _ caller refl (gave_fits count enough) more (inl refl) free (omega arith) (λ w x e. cc e)

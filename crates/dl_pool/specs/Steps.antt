@@ -59,15 +59,15 @@ module _ {S X : Type 0} where
   abbrev pub look_tells : ℕ → (ℕ → ℕ → ℕ → X → X) → Step S → Me S (Member X) → ℕ → Me S (Member X) → Type 0
   look_tells need denied st m n m' = LookTells need denied m n m'
 
-  -- a caller's seat has met another caller
-  abbrev pub IsRivalled : ℕ → Me S (Member X) → Type 0
-  IsRivalled callers m = 0 < m.0.pool.number → callers ≢ 1
+  -- where the seat is a caller's, there are several callers
+  abbrev pub IsOneOfSeveral : ℕ → Me S (Member X) → Type 0
+  IsOneOfSeveral callers m = 0 < m.0.pool.number → callers ≢ 1
 
   -- an exchange of word 0 that expected n and found k, where there are so many callers
   abbrev pub TakeTells : ℕ → ℕ → (ℕ → ℕ → X → X) → ℕ → Me S (Member X) → ℕ → Me S (Member X) → Type 0
   TakeTells callers need got n m k m' =
       (k ≡ n → m' ≡ (member (reserved need n m.0.pool) (got need (version_of n + 1) m.0.rest), m.1))
-      × (k ≢ n → IsRivalled callers m × (version_of n < version_of k) × (m' ≡ (member (raced k m.0.pool) m.0.rest, m.1)))
+      × (k ≢ n → IsOneOfSeveral callers m × (version_of n < version_of k) × (m' ≡ (member (raced k m.0.pool) m.0.rest, m.1)))
 
   abbrev pub take_tells : ℕ → ℕ → (ℕ → ℕ → X → X) → Step S → Me S (Member X) → ℕ → Me S (Member X) → Type 0
   take_tells callers need got st m k m' = TakeTells callers need got st.first m k m'
@@ -106,7 +106,7 @@ module _ {S X : Type 0} where
       (n : ℕ) × (k ≡ need) × (found ≡ free_of n) × (version ≡ version_of n) × (found < need) × (m.0.pool.known ≤ version)
       × (m' ≡ (member (refused need n m.0.pool) (denied need found version m.0.rest), m.1))
   ReserveAnswers callers need got denied m (Raced seen now) m' =
-      (n : ℕ) × (k : ℕ) × (need ≤ free_of n) × (seen ≡ version_of n) × (now ≡ version_of k) × (seen < now) × IsRivalled callers m
+      (n : ℕ) × (k : ℕ) × (need ≤ free_of n) × (seen ≡ version_of n) × (now ≡ version_of k) × (seen < now) × IsOneOfSeveral callers m
       × (m' ≡ (member (raced k (loaded n m.0.pool)) m.0.rest, m.1))
 
   -- what `give_back` tells

@@ -1,5 +1,5 @@
 -- What a round adds to the lists of a caller, and what the lists of all callers say of the pool word at the end.
-use Rattle.std.proofs.Common.{◌≡◌, ◌≢◌, ℕ, ◌+◌, ◌*◌, inl, inr, List, [], ◌∷◌, get_or, sym, refl, ap, ◌∙◌, subst, arith}
+use Rattle.std.proofs.Common.{◌≡◌, ◌≢◌, ℕ, ◌+◌, ◌*◌, inl, inr, List, [], ◌∷◌, get_or, sym, refl, ap, ◌∙◌, subst, arith, ◌<◌}
 use mathlib.Core.Option.{some, some-injective, some-ne-none}
 use mathlib.Core.Logic.{dite}
 use native.Mathlib.Decide.{ℕ_discrete}
@@ -68,14 +68,16 @@ spends need version x = one_less x
 pub got_adds : (callers need version : ℕ) (m m' : Sees) → ReserveAnswers callers need spends keeps_rest m (Got version) m' → Adds 1 need 0 m.0.pool m'.0.pool
 got_adds callers need version m m' h = subst (λ (z : Sees). Adds 1 need 0 m.0.pool z.0.pool) (sym h.4) (reserves need h.0 m.0.pool)
 
--- a refusal and a race add nothing
+-- a refusal and a race add nothing but steps
 pub not_got_adds : (callers need : ℕ) (m m' : Sees) (a : Reserve) → ((version : ℕ) → a ≢ Got version) → ReserveAnswers callers need spends keeps_rest m a m'
-    → Adds 0 0 0 m.0.pool m'.0.pool × (m'.1 ≡ m.1) × (m'.0.rest ≡ m.0.rest)
+    → Adds 0 0 0 m.0.pool m'.0.pool × (m'.1 ≡ m.1) × (m'.0.rest ≡ m.0.rest) × (m.0.pool.look.count < m'.0.pool.look.count)
 not_got_adds callers need m m' (Got version) other h = absurd (other version refl)
 not_got_adds callers need m m' (NoRoom k found version) other h =
-    subst (λ (z : Sees). Adds 0 0 0 m.0.pool z.0.pool × (z.1 ≡ m.1) × (z.0.rest ≡ m.0.rest)) (sym h.6) (refuses need h.0 m.0.pool, refl, refl)
+    subst (λ (z : Sees). Adds 0 0 0 m.0.pool z.0.pool × (z.1 ≡ m.1) × (z.0.rest ≡ m.0.rest) × (m.0.pool.look.count < z.0.pool.look.count)) (sym h.6)
+    (refuses need h.0 m.0.pool, refl, refl, omega arith)
 not_got_adds callers need m m' (Raced seen now) other h =
-    subst (λ (z : Sees). Adds 0 0 0 m.0.pool z.0.pool × (z.1 ≡ m.1) × (z.0.rest ≡ m.0.rest)) (sym h.7) (races h.0 h.1 m.0.pool, refl, refl)
+    subst (λ (z : Sees). Adds 0 0 0 m.0.pool z.0.pool × (z.1 ≡ m.1) × (z.0.rest ≡ m.0.rest) × (m.0.pool.look.count < z.0.pool.look.count)) (sym h.7)
+    (races h.0 h.1 m.0.pool, refl, refl, omega arith)
 
 pub give_adds : (count version : ℕ) (m m' : Sees) → GiveAnswers count spends m version m' → Adds 1 0 count m.0.pool m'.0.pool
 give_adds count version m m' h = subst (λ (z : Sees). Adds 1 0 count m.0.pool z.0.pool) (sym h.3) (gives count h.0 m.0.pool)

@@ -1,5 +1,5 @@
 //! The calls of the pool, on a table of this rule.
-ghost use Rattle.std.specs.Prelude.{◌≡◌, ℕ, ◌<◌, ◌≤◌, ◌+◌, ◌*◌, IfOk, [], length};
+ghost use Rattle.std.specs.Prelude.{◌≡◌, ℕ, ◌<◌, ◌≤◌, ◌+◌, ◌*◌, IfOk, IfSome, [], length};
 ghost use Rattle.dl_pool.specs.Rule.{word_of};
 ghost use Rattle.dl_pool.specs.Log.{HasAllCallers, IsWholeLog};
 ghost use Rattle.dl_pool.specs.Steps.{ReserveAnswers, GiveAnswers, ClaimAnswers, VacateTells, IsNote, noting, dealing_view, dealt_view, learning, joining};
@@ -45,6 +45,23 @@ pub fn reserve_own(table: &Words, seat: &mut Place, need: u32) -> Reserve
     ensures answer { ReserveAnswers table.now.key.callers need (λ n version x. one_less x) (λ n found version x. x) seat.old.me result seat.new.me }
 {
     reserve::<(), Rest, Setting, Trial, Spends>(table, seat, need)
+}
+
+/// A reservation on a table of one caller, which never races. Answers the version made, or nothing where too few places
+/// were free.
+pub fn reserve_alone(table: &Words, seat: &mut Place, need: u32) -> Option<u64>
+    requires table { (seat.old.table_id ≡ table.now.table_id) × (0 < table.now.table_id.words) }
+    requires left { (0 < seat.old.me.0.rest.left) × (0 < seat.old.me.0.pool.number) }
+    requires alone { table.now.key.callers ≡ 1 }
+    ensures seat { (seat.new.table_id ≡ seat.old.table_id) × (seat.new.id ≡ seat.old.id) }
+    ensures made { IfSome result (λ version. ReserveAnswers 1 need (λ n v x. one_less x) (λ n found v x. x) seat.old.me (Reserve.Got version) seat.new.me) }
+    ensures refused { result ≡ None → (found : ℕ) × (version : ℕ) × ReserveAnswers 1 need (λ n v x. one_less x) (λ n f v x. x) seat.old.me (Reserve.NoRoom need found version) seat.new.me }
+{
+    match reserve_own(table, seat, need) {
+        Reserve::Got { version } => Some(version),
+        Reserve::NoRoom { .. } => None,
+        Reserve::Raced { .. } => unreachable!(),
+    }
 }
 
 pub fn give_own(table: &Words, seat: &mut Place, count: u32) -> u64

@@ -2,8 +2,8 @@
 ghost use Rattle.std.specs.Prelude.{◌≡◌};
 
 use crate::{
-    Setting, claim_own, deal_own, give_own, join_own, learn_own, note_own, open, reserve_own,
-    two_threads, vacate_own,
+    Setting, claim_own, deal_own, give_own, join_own, learn_own, note_own, open, reserve_alone,
+    reserve_own, two_threads, vacate_own,
 };
 use dl_pool::{Claim, Layout, Reserve};
 use std::test::Fail;
@@ -55,6 +55,16 @@ fn rows(rt: HostRuntime) -> Result<(), Fail> {
     let closed = table.close_with(seat);
     assert_eq!(rt; closed.word(0), 4 * 16777216 + 3);
     closed.free();
+    Ok(())
+}
+
+#[test]
+fn alone(rt: HostRuntime) -> Result<(), Fail> {
+    let (table, mut dealer) = open(rt.alloc(), &three(1))?;
+    let words = &table.shared;
+    let mut seat = deal_own(words, &mut dealer);
+    assert!(rt; reserve_alone(words, &mut seat, 4).is_none());
+    assert_eq!(rt; reserve_alone(words, &mut seat, 3), Some(1));
     Ok(())
 }
 

@@ -20,6 +20,7 @@ fn visit(table: &Words, seat: &mut Place, layout: &Layout, number: u32)
     ensures seat { (seat.new.table_id ≡ seat.old.table_id) × (seat.new.me.1 ≡ seat.old.me.1) }
     ensures lists { Adds 0 0 0 seat.old.me.0.pool seat.new.me.0.pool × (seat.new.me.0.pool.spares ≡ seat.old.me.0.pool.spares) }
     ensures rest { (seat.new.me.0.rest.claimed ≡ []) × (seat.new.me.0.rest.left ≡ seat.old.me.0.rest.left) }
+    ensures looks { seat.old.me.0.pool.look.count < seat.new.me.0.pool.look.count }
 {
     if let Claim::Got = claim_own(table, seat, layout, number, 0) {
         vacate_own(table, seat, layout, 0);
@@ -35,6 +36,7 @@ fn round(table: &Words, seat: &mut Place, layout: &Layout, number: u32) -> bool
     ensures seat { (seat.new.table_id ≡ seat.old.table_id) × (seat.new.me.1 ≡ seat.old.me.1) }
     ensures made { MakesRounds (cond result 1 0) seat.old.me.0.pool seat.new.me.0.pool × (seat.new.me.0.rest.claimed ≡ []) }
     ensures left { seat.old.me.0.rest.left ≤ seat.new.me.0.rest.left + 2 }
+    ensures looks { seat.old.me.0.pool.look.count < seat.new.me.0.pool.look.count }
 {
     let Reserve::Got { .. } = reserve_own(table, seat, 1) else {
         return false;
@@ -53,6 +55,7 @@ pub fn rounds(table: &Words, seat: &mut Place, layout: &Layout, number: u32, cou
     ensures seat { (seat.new.table_id ≡ seat.old.table_id) × (seat.new.me.1 ≡ seat.old.me.1) }
     ensures made { MakesRounds result seat.old.me.0.pool seat.new.me.0.pool × (seat.new.me.0.rest.claimed ≡ []) }
     ensures count { result ≤ count }
+    ensures looks { seat.old.me.0.pool.look.count + count ≤ seat.new.me.0.pool.look.count }
 {
     let mut made = 0;
     for _ in 0..count {
@@ -89,6 +92,7 @@ fn run_both<R: Threads + Sync>(
     ensures one { (one.new.table_id ≡ one.old.table_id) × (one.new.me.1 ≡ one.old.me.1) × MakesRounds result.0 one.old.me.0.pool one.new.me.0.pool }
     ensures two { (two.new.table_id ≡ two.old.table_id) × (two.new.me.1 ≡ two.old.me.1) × MakesRounds result.1 two.old.me.0.pool two.new.me.0.pool }
     ensures count { (result.0 ≤ count) × (result.1 ≤ count) }
+    ensures looks { (one.old.me.0.pool.look.count + count ≤ one.new.me.0.pool.look.count) × (two.old.me.0.pool.look.count + count ≤ two.new.me.0.pool.look.count) }
 {
     join_mut(
         rt,

@@ -8,7 +8,7 @@ returns-in_default c =
     let h = not_got_adds c.args.table.now.key.callers 1 c.args.seat.now.me c.reserve_own.new.seat.me c.reserve_own.result c.in_default.not-Got c.reserve_own.ensures.answer in
     let same = ap (λ (x : Rest). x.claimed) h.2 in
     let left = ap (λ (x : Rest). x.left) h.2 in
-    record { seat = (c.reserve_own.ensures.seat.0, h.1); made = (h.0, same ∙ c.requires.rest.0); left = omega arith }
+    record { seat = (c.reserve_own.ensures.seat.0, h.1); made = (h.0, same ∙ c.requires.rest.0); left = omega arith; looks = h.3 }
 
 pub returns-clause-made : goal.returns-clause-made
 returns-clause-made c =
