@@ -8,3 +8,4 @@ pub mod Keeps
 pub mod SeatSteps
 pub mod Openings
 pub mod Rivals
+pub mod Logs

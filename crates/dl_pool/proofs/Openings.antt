@@ -16,22 +16,23 @@ first_fits : (opening now j : ℕ) (p : Part) → get_elem? (first_part ∷ []) 
 first_fits opening now zero p e = subst (λ (q : Part). Fits opening (first_part ∷ []) now q) (some-injective first_part p e) (omega arith, (λ w k last _. cc last), ((tt, tt), tt))
 first_fits opening now (suc j) p e = absurd (some-ne-none p (sym e))
 
-first_owns : (j : ℕ) (p : Part) → get_elem? (first_part ∷ []) j ≡ some p → Owns (λ c. 0) j p
-first_owns zero p e = subst (λ (q : Part). Owns (λ c. 0) 0 q) (some-injective first_part p e) ((((λ pos. absurd (omega arith)), λ _. refl), tt), (tt, tt), λ pos. ((λ c le. refl), (omega arith, tt)))
-first_owns (suc j) p e = absurd (some-ne-none p (sym e))
+first_owns : (callers j : ℕ) (p : Part) → get_elem? (first_part ∷ []) j ≡ some p → Owns callers (λ c. 0) j p
+first_owns callers zero p e = subst (λ (q : Part). Owns callers (λ c. 0) 0 q) (some-injective first_part p e) ((((λ pos. absurd (omega arith)), λ _. refl), tt), (tt, tt), (λ pos. ((λ c le. refl), (omega arith, tt))), ((omega arith, tt), omega arith))
+first_owns callers (suc j) p e = absurd (some-ne-none p (sym e))
 
 -- word 0 is the number of vacant places, and one seat deals every number out
-pub opens : (l : Layout) (ws : List ℕ) → IsLaidOut l ws → vacant_in l ws ≡ get_or ws 0 0 → Kept (get_or ws 0 0) l ws (first_part ∷ [])
-opens l ws laid is =
+pub opens : (callers : ℕ) (l : Layout) (ws : List ℕ) → IsLaidOut l ws → vacant_in l ws ≡ get_or ws 0 0 → Kept (get_or ws 0 0) callers l ws (first_part ∷ [])
+opens callers l ws laid is =
     let n : ℕ = get_or ws 0 0 in
     let most = vacant_most ws l.first l.step l.places in
     let few : n ≤ 65536 = (let a = laid.most in omega arith) in record {
       laid = laid;
       once = λ x. none_yet x n few;
       free = omega arith;
+      never_short = λ u le. let z : u ≡ 0 = omega arith in (n, omega arith);
       bounded = omega arith;
       states = omega arith;
       fits = λ j p e. first_fits n (version_of n) j p e;
       owner = λ c. 0;
-      owned = first_owns;
+      owned = first_owns callers;
     }

@@ -88,12 +88,15 @@ total_all f v (p ∷ ps) h =
 none_above : (v x : ℕ) → v < x → once_to v x ≡ 0
 none_above v x l = ap (λ (b : Bool). cond (leb 1 x && b) 1 0) (lt-leb x v l) ∙ grind (arith)
 
+-- where each version up to v is made once and none above it, no move is later than v
+pub all_moves : (f : Move → ℕ) (v : ℕ) (ps : List Part) → ((x : ℕ) → total (makes x) ps ≡ once_to v x) → total (up_to f v) ps ≡ total f ps
+all_moves f v ps once = total_all f v ps (λ x less. once x ∙ none_above v x less)
+
 -- the number free now is the number free at the present version
-pub now_free : (opening : ℕ) (l : Layout) (ws : List ℕ) (ps : List Part) → Kept opening l ws ps → WasFree opening ps (version_of (get_or ws 0 0)) (free_of (get_or ws 0 0))
-now_free opening l ws ps k =
+pub now_free : (opening callers : ℕ) (l : Layout) (ws : List ℕ) (ps : List Part) → Kept opening callers l ws ps → WasFree opening ps (version_of (get_or ws 0 0)) (free_of (get_or ws 0 0))
+now_free opening callers l ws ps k =
     let word : ℕ = get_or ws 0 0 in
-    let none_later : (x : ℕ) → version_of word < x → total (makes x) ps ≡ 0 = λ x less. k.once x ∙ none_above (version_of word) x less in
-    let a : total (up_to took (version_of word)) ps ≡ total took ps = total_all took (version_of word) ps none_later in
-    let b : total (up_to gave (version_of word)) ps ≡ total gave ps = total_all gave (version_of word) ps none_later in
+    let a : total (up_to took (version_of word)) ps ≡ total took ps = all_moves took (version_of word) ps k.once in
+    let b : total (up_to gave (version_of word)) ps ≡ total gave ps = all_moves gave (version_of word) ps k.once in
     let is : free_of word + total took ps ≡ opening + total gave ps = k.free in
     omega arith

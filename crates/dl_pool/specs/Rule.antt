@@ -1,5 +1,5 @@
 -- The pool rule. Word 0 is the version times 2^24, plus the number of free places; each place has a word for its state.
-use Rattle.std.specs.Prelude.{◌≡◌, ◌≢◌, ℕ, zero, suc, ◌+◌, ◌*◌, ◌/◌, ◌%◌, ◌<◌, ◌≤◌, List, [], ◌∷◌, cond, leb, eqb, ◌&&◌, length, slice_index, map}
+use Rattle.std.specs.Prelude.{◌≡◌, ◌≢◌, ℕ, zero, suc, ◌+◌, ◌*◌, ◌/◌, ◌%◌, ◌<◌, ◌≤◌, ◌⊎◌, List, [], ◌∷◌, cond, leb, eqb, ◌&&◌, length, slice_index, map}
 use mathlib.Core.Option.{some}
 use lib.ListN.{get_elem?}
 use Rattle.atomic_table.specs.Table.{State}
@@ -122,9 +122,9 @@ module _ (opening : ℕ) (ps : List Part) where
   abbrev pub WasFree : ℕ → ℕ → Type 0
   WasFree u n = n + total (up_to took u) ps ≡ opening + total (up_to gave u) ps
 
-  -- what a refusal found was too little, and was the number of free places at its version
+  -- a move takes or gives back; what a refusal found was too little, and was the number of free places at its version
   abbrev pub Says : Event → Type 0
-  Says (Moved m) = Unit {0}
+  Says (Moved m) = (m.taken ≡ 0) ⊎ (m.back ≡ 0)
   Says (Refused r) = (r.found < r.need) × WasFree r.version r.found
 
   -- a list rises, and a view that has it knows each of its versions
@@ -143,26 +143,40 @@ abbrev pub AreApart : List Account → Type 0
 AreApart [] = Unit {0}
 AreApart (a ∷ rest) = Every (λ b. 0 < a.number → a.number ≢ b.number) rest × AreApart rest
 
--- the seat j keeps the numbers of its accounts and those that it may deal out; without a number there is no list
-abbrev pub Owns : (ℕ → ℕ) → ℕ → Part → Type 0
-Owns owner j p =
-    Every (λ a. (0 < a.number → owner a.number ≡ j) × (a.number ≡ 0 → a.events ≡ [])) (accounts p)
-    × AreApart (accounts p)
-    × (0 < p.dealing → ((c : ℕ) → p.dealing ≤ c → owner c ≡ j) × Every (λ a. a.number < p.dealing) (accounts p))
+-- the seat j keeps the number of the account; without a number there is no list
+abbrev pub OwnsOne : (ℕ → ℕ) → ℕ → Account → Type 0
+OwnsOne owner j a = (0 < a.number → owner a.number ≡ j) × (a.number ≡ 0 → a.events ≡ [])
 
--- the rule, by the words and the pool's parts of all views
-pub record Kept (opening : ℕ) (l : Layout) (ws : List ℕ) (ps : List Part) : Type 0 where
+-- the numbers that the seat j may still deal out are its own, and above those of its accounts
+abbrev pub OwnsDeals : (ℕ → ℕ) → ℕ → Part → Type 0
+OwnsDeals owner j p = 0 < p.dealing → ((c : ℕ) → p.dealing ≤ c → owner c ≡ j) × Every (λ a. a.number < p.dealing) (accounts p)
+
+-- no number is above that of the last caller
+abbrev pub FitsCallers : ℕ → Part → Type 0
+FitsCallers callers p = Every (λ a. a.number ≤ callers) (accounts p) × (p.dealing ≤ callers + 1)
+
+-- the seat j keeps the numbers of its accounts and those that it may deal out
+abbrev pub Owns : ℕ → (ℕ → ℕ) → ℕ → Part → Type 0
+Owns callers owner j p = Every (OwnsOne owner j) (accounts p) × AreApart (accounts p) × OwnsDeals owner j p × FitsCallers callers p
+
+-- the rule, by the words and the pool's parts of all views: so many places were free at first, and there are so many callers
+pub record Kept (opening callers : ℕ) (l : Layout) (ws : List ℕ) (ps : List Part) : Type 0 where
   pub laid : IsLaidOut l ws
   -- the versions 1 to the present one are made once each
   pub once : (x : ℕ) → total (makes x) ps ≡ once_to (version_of (slice_index ws 0)) x
+  -- the free places are those at first, and all changes
   pub free : free_of (slice_index ws 0) + total took ps ≡ opening + total gave ps
+  -- at each version so far some number of places was free: never was more taken than there was
+  pub never_short : (u : ℕ) → u ≤ version_of (slice_index ws 0) → (n : ℕ) × WasFree opening ps u n
+  -- how far versions go
   pub bounded : version_of (slice_index ws 0) ≤ 8388608
   -- the vacant places are free, or spares of a seat
   pub states : vacant_in l ws ≡ free_of (slice_index ws 0) + spare ps
+  -- what each view says of the pool is so
   pub fits : (j : ℕ) (p : Part) → get_elem? ps j ≡ some p → Fits opening ps (version_of (slice_index ws 0)) p
   -- each number is kept by one seat
   pub owner : ℕ → ℕ
-  pub owned : (j : ℕ) (p : Part) → get_elem? ps j ≡ some p → Owns owner j p
+  pub owned : (j : ℕ) (p : Part) → get_elem? ps j ≡ some p → Owns callers owner j p
 
-abbrev pub PoolKept : {S X : Type 0} → ℕ → Layout → State S (Member X) → Type 0
-PoolKept opening l s = Kept opening l s.words (parts s.views)
+abbrev pub PoolKept : {S X : Type 0} → ℕ → ℕ → Layout → State S (Member X) → Type 0
+PoolKept opening callers l s = Kept opening callers l s.words (parts s.views)

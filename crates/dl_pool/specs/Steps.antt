@@ -25,15 +25,14 @@ module _ {S X : Type 0} (holds : State S (Member X) → Type 0) (id : ℕ) where
     pub loads : Moves 0 v (λ n. need ≤ free_of n) (λ n. n) (λ n. member (loaded n v.pool) v.rest)
 
   -- what the exchange owes that expects the number n, which the seat has loaded
-  pub record CanTake (need : ℕ) (got : ℕ → ℕ → X → X) (rival : Type 0) (n : ℕ) (v : Member X) : Type 0 where
+  pub record CanTake (need : ℕ) (got : ℕ → ℕ → X → X) (n : ℕ) (v : Member X) : Type 0 where
     pub makes : Moves 0 v (λ k. k ≡ n) (λ k. k + 16777216 - need) (λ k. member (reserved need k v.pool) (got need (version_of k + 1) v.rest))
     pub races : Moves 0 v (λ k. k ≢ n) (λ k. k) (λ k. member (raced k v.pool) v.rest)
-    pub rivals : (s : State S (Member X)) → holds s → get_elem? s.views id ≡ some v → version_of n < version_of (slice_index s.words 0) → rival
 
   -- what a reservation owes
-  pub record MayReserve (need : ℕ) (got : ℕ → ℕ → X → X) (denied : ℕ → ℕ → ℕ → X → X) (rival : Type 0) (v : Member X) : Type 0 where
+  pub record MayReserve (need : ℕ) (got : ℕ → ℕ → X → X) (denied : ℕ → ℕ → ℕ → X → X) (v : Member X) : Type 0 where
     pub looks : CanLook need denied v
-    pub takes : (n : ℕ) → need ≤ free_of n → v.pool.known ≤ version_of n → CanTake need got rival n (member (loaded n v.pool) v.rest)
+    pub takes : (n : ℕ) → need ≤ free_of n → v.pool.known ≤ version_of n → CanTake need got n (member (loaded n v.pool) v.rest)
 
   -- what giving back owes
   pub record MayGive (count : ℕ) (back : ℕ → ℕ → X → X) (v : Member X) : Type 0 where
@@ -60,14 +59,18 @@ module _ {S X : Type 0} where
   abbrev pub look_tells : ℕ → (ℕ → ℕ → ℕ → X → X) → Step S → Me S (Member X) → ℕ → Me S (Member X) → Type 0
   look_tells need denied st m n m' = LookTells need denied m n m'
 
-  -- an exchange of word 0 that expected n and found k
-  abbrev pub TakeTells : ℕ → (ℕ → ℕ → X → X) → Type 0 → ℕ → Me S (Member X) → ℕ → Me S (Member X) → Type 0
-  TakeTells need got rival n m k m' =
-      (k ≡ n → m' ≡ (member (reserved need n m.0.pool) (got need (version_of n + 1) m.0.rest), m.1))
-      × (k ≢ n → rival × (version_of n < version_of k) × (m' ≡ (member (raced k m.0.pool) m.0.rest, m.1)))
+  -- where the seat is a caller's, there are several callers
+  abbrev pub IsOneOfSeveral : ℕ → Me S (Member X) → Type 0
+  IsOneOfSeveral callers m = 0 < m.0.pool.number → callers ≢ 1
 
-  abbrev pub take_tells : ℕ → (ℕ → ℕ → X → X) → Type 0 → Step S → Me S (Member X) → ℕ → Me S (Member X) → Type 0
-  take_tells need got rival st m k m' = TakeTells need got rival st.first m k m'
+  -- an exchange of word 0 that expected n and found k, where there are so many callers
+  abbrev pub TakeTells : ℕ → ℕ → (ℕ → ℕ → X → X) → ℕ → Me S (Member X) → ℕ → Me S (Member X) → Type 0
+  TakeTells callers need got n m k m' =
+      (k ≡ n → m' ≡ (member (reserved need n m.0.pool) (got need (version_of n + 1) m.0.rest), m.1))
+      × (k ≢ n → IsOneOfSeveral callers m × (version_of n < version_of k) × (m' ≡ (member (raced k m.0.pool) m.0.rest, m.1)))
+
+  abbrev pub take_tells : ℕ → ℕ → (ℕ → ℕ → X → X) → Step S → Me S (Member X) → ℕ → Me S (Member X) → Type 0
+  take_tells callers need got st m k m' = TakeTells callers need got st.first m k m'
 
   -- an addition to word 0 that found n
   abbrev pub GiveTells : ℕ → (ℕ → ℕ → X → X) → Me S (Member X) → ℕ → Me S (Member X) → Type 0
@@ -94,16 +97,16 @@ module _ {S X : Type 0} where
   abbrev pub vacate_tells : ℕ → ℕ → (ℕ → X → X) → Step S → Me S (Member X) → ℕ → Me S (Member X) → Type 0
   vacate_tells i place after st m n m' = VacateTells i place after m m'
 
-  -- what an answer of `reserve` tells of the views before and after
-  abbrev pub ReserveAnswers : ℕ → (ℕ → ℕ → X → X) → (ℕ → ℕ → ℕ → X → X) → Type 0 → Me S (Member X) → Reserve → Me S (Member X) → Type 0
-  ReserveAnswers need got denied rival m (Got version) m' =
+  -- what an answer of `reserve` tells of the views before and after, where there are so many callers
+  abbrev pub ReserveAnswers : ℕ → ℕ → (ℕ → ℕ → X → X) → (ℕ → ℕ → ℕ → X → X) → Me S (Member X) → Reserve → Me S (Member X) → Type 0
+  ReserveAnswers callers need got denied m (Got version) m' =
       (n : ℕ) × (need ≤ free_of n) × (version ≡ version_of n + 1) × (m.0.pool.known < version)
       × (m' ≡ (member (reserved need n (loaded n m.0.pool)) (got need version m.0.rest), m.1))
-  ReserveAnswers need got denied rival m (NoRoom k found version) m' =
+  ReserveAnswers callers need got denied m (NoRoom k found version) m' =
       (n : ℕ) × (k ≡ need) × (found ≡ free_of n) × (version ≡ version_of n) × (found < need) × (m.0.pool.known ≤ version)
       × (m' ≡ (member (refused need n m.0.pool) (denied need found version m.0.rest), m.1))
-  ReserveAnswers need got denied rival m (Raced seen now) m' =
-      (n : ℕ) × (k : ℕ) × (need ≤ free_of n) × (seen ≡ version_of n) × (now ≡ version_of k) × (seen < now) × rival
+  ReserveAnswers callers need got denied m (Raced seen now) m' =
+      (n : ℕ) × (k : ℕ) × (need ≤ free_of n) × (seen ≡ version_of n) × (now ≡ version_of k) × (seen < now) × IsOneOfSeveral callers m
       × (m' ≡ (member (raced k (loaded n m.0.pool)) m.0.rest, m.1))
 
   -- what `give_back` tells

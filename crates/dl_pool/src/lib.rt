@@ -3,6 +3,7 @@
 #![tactic(auto)]
 
 mod answers;
+mod laws;
 mod places;
 mod rules;
 mod seats;
@@ -10,6 +11,7 @@ mod views;
 mod words;
 
 pub use answers::{Claim, Reserve};
+pub use laws::whole_log;
 pub use places::{claim, vacate};
 pub use rules::{Joining, Onward, Parting, Pooled};
 pub use seats::{deal, join, learn, note};

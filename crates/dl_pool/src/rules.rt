@@ -14,9 +14,12 @@ pub trait Pooled<S, X, K>: TableRule<S, Member<X>, K> {
     // The number of free places at the start.
     ghost opening: { K → ℕ };
 
+    // How many callers there are; their numbers are 1 to this one.
+    ghost callers: { K → ℕ };
+
     ghost layout: { K → Layout };
 
-    ghost contains: { (k : K) (s : State S (Member X)) → Self.holds k s → PoolKept (opening k) (layout k) s };
+    ghost contains: { (k : K) (s : State S (Member X)) → Self.holds k s → PoolKept (opening k) (callers k) (layout k) s };
 }
 
 /// What the rest of a view becomes at the deciding step. Each member is given what the step told.
@@ -26,9 +29,6 @@ pub trait Onward<X> {
 
     // The number asked for, the number found and its version.
     ghost refused: { ℕ → ℕ → ℕ → X → X };
-
-    // What a race shows of the table: that another caller moved.
-    ghost rival: { Type 0 };
 
     // The number given back and the version made.
     ghost back: { ℕ → ℕ → X → X };

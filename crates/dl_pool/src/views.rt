@@ -66,6 +66,7 @@ pub struct Member<X> {
 }
 
 /// Where the places stand: the state of place p is the word `first + p * step`, and 0 where the place is vacant.
+#[derive(Clone, Copy)]
 pub struct Layout {
     pub first: u32,
     pub step: u32,

@@ -22,6 +22,19 @@ impl Amount for Brand {
     ghost amount = { 0 };
 }
 
+/// The same for the exchange of a reservation, and the number of callers.
+trait Bid {
+    ghost amount: { ℕ };
+
+    ghost callers: { ℕ };
+}
+
+impl Bid for Brand {
+    ghost amount = { 0 };
+
+    ghost callers = { 0 };
+}
+
 /// The load of a reservation.
 struct Looks<N, O> {
     marker: PhantomData<(N, O)>,
@@ -36,8 +49,8 @@ struct Takes<N, O> {
     marker: PhantomData<(N, O)>,
 }
 
-impl<S, X, N: Amount, O: Onward<X>> Play<S, Member<X>> for Takes<N, O> {
-    ghost then = { take_tells N.amount O.got O.rival };
+impl<S, X, N: Bid, O: Onward<X>> Play<S, Member<X>> for Takes<N, O> {
+    ghost then = { take_tells N.callers N.amount O.got };
 }
 
 fn look<N: Amount, S, X, K, P: Pooled<S, X, K>, O: Onward<X>>(
@@ -54,19 +67,19 @@ fn look<N: Amount, S, X, K, P: Pooled<S, X, K>, O: Onward<X>>(
     table.load::<Looks<N, O>>(seat, 0)
 }
 
-fn take<N: Amount, S, X, K, P: Pooled<S, X, K>, O: Onward<X>>(
+fn take<N: Bid, S, X, K, P: Pooled<S, X, K>, O: Onward<X>>(
     table: &Shared<S, Member<X>, K, P>,
     seat: &mut Seat<S, Member<X>>,
     found: u64,
     need: u32,
 ) -> u64
     requires table { (seat.old.table_id ≡ table.now.table_id) × (0 < table.now.table_id.words) }
-    requires amount { need ≡ N.amount }
+    requires named { (need ≡ N.amount) × (P.callers table.now.key ≡ N.callers) }
     requires room { (need ≤ free_of found) × (version_of found ≤ 8388608) }
-    requires looked { seat.old.me.0.pool.look.last ≡ Load 0 found }
-    requires rule { CanTake (P.holds table.now.key) seat.old.id N.amount O.got O.rival found seat.old.me.0 }
+    requires looked { (seat.old.me.0.pool.look.last ≡ Load 0 found) × (seat.old.me.0.pool.known ≤ version_of found) }
+    requires rule { CanTake (P.holds table.now.key) seat.old.id N.amount O.got found seat.old.me.0 }
     ensures seat { (seat.new.table_id ≡ seat.old.table_id) × (seat.new.id ≡ seat.old.id) }
-    ensures tells { TakeTells N.amount O.got O.rival found seat.old.me result seat.new.me }
+    ensures tells { TakeTells N.callers N.amount O.got found seat.old.me result seat.new.me }
 {
     table.compare_exchange::<Takes<N, O>>(seat, 0, found, found + UNIT - need as u64)
 }
@@ -119,9 +132,9 @@ pub fn reserve<S, X, K, P: Pooled<S, X, K>, O: Onward<X>>(
     need: u32,
 ) -> Reserve
     requires table { (seat.old.table_id ≡ table.now.table_id) × (0 < table.now.table_id.words) }
-    requires rule { MayReserve (P.holds table.now.key) seat.old.id need O.got O.refused O.rival seat.old.me.0 }
+    requires rule { MayReserve (P.holds table.now.key) seat.old.id need O.got O.refused seat.old.me.0 }
     ensures seat { (seat.new.table_id ≡ seat.old.table_id) × (seat.new.id ≡ seat.old.id) }
-    ensures answer { ReserveAnswers need O.got O.refused O.rival seat.old.me result seat.new.me }
+    ensures answer { ReserveAnswers (P.callers table.now.key) need O.got O.refused seat.old.me result seat.new.me }
 {
     let found = look::<Brand, S, X, K, P, O>(table, seat, need);
     let free = found % UNIT;

@@ -7,10 +7,10 @@ mod rule;
 mod threads;
 
 pub use calls::{
-    Place, Words, claim_own, deal_own, give_own, join_own, learn_own, note_own, open, reserve_own,
-    vacate_own,
+    Place, Places, Words, claim_own, close_own, deal_own, give_own, join_own, learn_own, note_own,
+    open, reserve_alone, reserve_own, vacate_own,
 };
-pub use rule::{Rest, Trial};
+pub use rule::{Hold, Rest, Setting, Trial};
 pub use threads::{Totals, rounds, two_threads};
 
 #[cfg(test)]

@@ -3,18 +3,33 @@ use atomic_table::TableRule;
 use dl_pool::{Joining, Layout, Member, Onward, Parting, Pooled};
 use std::collections::LinkedList;
 
+/// A claimed place, and the caller that claimed it.
+pub struct Hold {
+    pub caller: u64,
+    pub place: u64,
+}
+
 /// What a seat knows beside the pool's part of its view.
 pub struct Rest {
-    /// The places that the seat has claimed and not vacated.
-    pub claimed: LinkedList<u64>,
+    /// The caller whose seat this is, or 0.
+    pub number: u64,
+    /// The places that the callers of the seat have claimed and not vacated.
+    pub claimed: LinkedList<Hold>,
     /// How many moves the seat may still make.
     pub left: u64,
 }
 
-/// The rule of a table of one pool and its places, with the layout as its key.
+/// What a table is made for: where its places stand, and how many callers there are.
+#[derive(Clone, Copy)]
+pub struct Setting {
+    pub layout: Layout,
+    pub callers: u32,
+}
+
+/// The rule of a table of one pool and its places, with its setting as the key.
 pub struct Trial;
 
-impl TableRule<(), Member<Rest>, Layout> for Trial {
+impl TableRule<(), Member<Rest>, Setting> for Trial {
     ghost use Rattle.dl_pool_trial.specs.Trials.{TrialKept, newcomer};
 
     ghost holds = { TrialKept };
@@ -22,10 +37,12 @@ impl TableRule<(), Member<Rest>, Layout> for Trial {
     ghost first = { λ k. newcomer };
 }
 
-impl Pooled<(), Rest, Layout> for Trial {
-    ghost opening = { λ k. k.places };
+impl Pooled<(), Rest, Setting> for Trial {
+    ghost opening = { λ k. k.layout.places };
 
-    ghost layout = { λ k. k };
+    ghost callers = { λ k. k.callers };
+
+    ghost layout = { λ k. k.layout };
 
     ghost contains = { λ k s h. h.pool };
 }
@@ -39,8 +56,6 @@ impl Onward<Rest> for Spends {
     ghost got = { λ need version x. one_less x };
 
     ghost refused = { λ need found version x. x };
-
-    ghost rival = { Unit {0} };
 
     ghost back = { λ count version x. one_less x };
 
@@ -59,7 +74,7 @@ impl Parting<Rest> for Shares {
 
     ghost keeps = { λ c x. rest_less x };
 
-    ghost dealt = { λ c x. share };
+    ghost dealt = { λ c x. share c };
 }
 
 impl Joining<Rest> for Shares {

@@ -3,4 +3,4 @@ use Rattle.dl_pool.proofs.Keeps.{takes_allowed_as}
 use Rattle.dl_pool.proofs.words.take.Goals as goal
 
 pub compare_exchange-requires : goal.compare_exchange-requires
-compare_exchange-requires g c = (search rules, search rules, takes_allowed_as (g.P.TableRule.holds c.args.table.now.key) (g.P.Pooled.opening c.args.table.now.key) (g.P.Pooled.layout c.args.table.now.key) (g.met.P.Pooled.contains c.args.table.now.key) _ _ _ _ _ _ g.O.Onward.rival _ c.requires.amount c.requires.looked c.requires.rule)
+compare_exchange-requires g c = (search rules, search rules, takes_allowed_as (g.P.TableRule.holds c.args.table.now.key) (g.P.Pooled.opening c.args.table.now.key) (g.P.Pooled.callers c.args.table.now.key) (g.P.Pooled.layout c.args.table.now.key) (g.met.P.Pooled.contains c.args.table.now.key) _ _ _ _ _ _ _ _ c.requires.named.0 c.requires.named.1 c.requires.looked.0 c.requires.looked.1 c.requires.rule)
