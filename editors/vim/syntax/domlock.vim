@@ -7,8 +7,11 @@ setlocal commentstring=#\ %s iskeyword=@,48-57,_ shiftwidth=2 expandtab
 syntax match domlockName "\<[A-Za-z_][A-Za-z0-9_]*\>"
 syntax keyword domlockHead domlock
 syntax keyword domlockDeclaration root node op var allocs fuel
-" The words that begin or divide statements, all in one line.
 syntax keyword domlockStatement if else while return
+" In a text of version 2 emit begins a statement; in one of version 1 it is a name.
+if search('^\s*domlock\s\+2\>', 'cnw')
+  syntax keyword domlockStatement emit
+endif
 syntax keyword domlockOperator new
 syntax keyword domlockType int
 syntax keyword domlockConstant null
