@@ -1,3 +1,4 @@
+-- What is found at a path, and which paths are sound, as files are added.
 use Rattle.std.proofs.Common.{◌≡◌, ◌≢◌, ℕ, ◌+◌, ◌<◌, Bool, true, false, List, [], ◌∷◌, ◌++◌, Option, Some, None, IsSome, IfSome, length, drop, get_or, refl, sym, ◌∙◌, ap, arith, cond, drop-cons, add-one, zero, suc, subst}
 use Rattle.std.specs.Prelude.{map, slice_get, option_map, string_bytes, Contains, bytes_eq, is_some, ◌&&◌}
 use Rattle.std.specs.Bool.{Decides}

@@ -110,7 +110,7 @@ module _ (v : ℕ) where
         (cut_so (before ++ piece) (at + length piece) line more ts to end rest cut (length-append before piece ∙ ap (λ n. n + length piece) here)),
   )
 
-  tokens_so : (bytes : List ℕ) (ts : List Token) → AreTokens bytes ts → AllByRecursion (LexemeSo v) (lexemes_in v bytes ts)
+  pub tokens_so : (bytes : List ℕ) (ts : List Token) → AreTokens bytes ts → AllByRecursion (LexemeSo v) (lexemes_in v bytes ts)
   tokens_so bytes ts are = cut_so [] 0 1 bytes ts are.0 are.1 [] are.2 refl
 
 pub spelled_has_tokens : SpelledHasTokens

@@ -7,6 +7,7 @@ mod Modules
 mod Prints
 mod Reread
 mod SameText
+mod Silent
 mod Statements
 mod Tokens
 mod TokensOfModules

@@ -61,7 +61,7 @@ module _ (v : ℕ) where
   pub from_name : (limit : Words → Option Bound) → From LexemeSo (λ (w : Words). IsName v w.text) (One name limit)
   from_name limit = from_one _ _ _ (λ t w so is some. name_so t.lexis t.line w so is)
 
-  from_reserved : (g : Fixed) → From LexemeSo (λ (l : ℕ). IsReserved v g) (rule.word g)
+  pub from_reserved : (g : Fixed) → From LexemeSo (λ (l : ℕ). IsReserved v g) (rule.word g)
   from_reserved g = from_one _ _ _ (λ t l so is some. subst LexisSo (fixed_is_in g t.lexis t.line l is) so)
 
   pub from_number : (limit : ℕ → Option Bound) → From LexemeSo (λ n. n ≤ greatest) (One number limit)

@@ -1,6 +1,8 @@
-//! Laws of the canonical text: that it spells the tree that it is made of, but for the lines.
+//! Laws of the canonical text: that it spells the tree that it is made of, but for the lines; and of texts of
+//! version 1, that they emit nothing.
 #![tactic(auto)]
 
+ghost use Rattle.dl_rereading.specs.Silence.{FirstVersionEmitsNothing};
 ghost use Rattle.dl_rereading.specs.Rereading.{CanonicalIsReread, CanonicalKeepsNoLines, PiecesAreAText, SpelledHasTokens};
 
 use dl_grammar::one_module;
@@ -29,3 +31,8 @@ pub fn canonical_is_reread()
     pieces_are_tokens();
     one_module();
 }
+
+/// That no operation of a module of version 1 emits.
+pub fn first_version_emits_nothing()
+    ensures { FirstVersionEmitsNothing }
+{}

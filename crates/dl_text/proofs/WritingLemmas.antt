@@ -1,3 +1,4 @@
+-- How the effects of puts follow one another.
 use Rattle.std.proofs.Common.{◌≡◌, ℕ, ◌+◌, ◌<◌, ◌≤◌, List, [], ◌∷◌, ◌++◌, Option, Some, None, Result, Ok, Err, IsErr, length, take, drop, get_or, refl, ◌∙◌, ap, subst, arith, append_assoc, add-one, drop-cons}
 use Rattle.std.proofs.Math.Nat.{le_trans}
 use Rattle.std.proofs.lemmas.List.{append-nil, take-append-drop}
