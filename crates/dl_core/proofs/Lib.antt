@@ -63,3 +63,5 @@ pub mod StepsKeep
 pub mod FreshSound
 pub mod BeginKeeps
 pub mod LawfulAlways
+pub mod Elements
+pub mod Small

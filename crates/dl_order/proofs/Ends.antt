@@ -47,7 +47,7 @@ use Rattle.dl_core.proofs.LawfulAlways.{lawful_always}
 use Rattle.dl_order.specs.Ends.{AreAllIdle, history_in, all_refusals, IsRunOver, RunsEnd}
 use Rattle.dl_order.proofs.Always.{serial_on}
 use Rattle.dl_order.proofs.Histories.{told, same_pieces}
-use Rattle.dl_order.proofs.Lists.{Each, In, Up, each_in, each_map, each_of, each_all, all_each, in_contains, contains_in, pairs_up, up_pairs}
+use Rattle.dl_core.proofs.Elements.{Each, In, Up, each_in, each_map, each_of, each_all, all_each, in_contains, contains_in, pairs_up, up_pairs}
 use Rattle.dl_order.proofs.Orders.{IsInOrder, IsRefusalOf, all_in_order}
 use Rattle.dl_order.proofs.Pieces.{no_last, map_pieces, pieces_of_pieces, rising_changed, in_piece, in_rising_in, each_pieces, pairs_in, rise_together, count_none, none_there, one_there, tally, tally_pieces, tally_rising, change_up_to, fold_tally}
 use Rattle.dl_order.proofs.Serial.{IsReplayOf}
