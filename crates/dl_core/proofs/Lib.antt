@@ -24,6 +24,8 @@ pub mod Moves
 pub mod Recounting
 pub mod RootNumbers
 pub mod FewRoots
+pub mod Replaced
+pub mod TouchSteps
 pub mod Clearance
 pub mod HeapKept
 pub mod Fresh

@@ -11,6 +11,8 @@ pub mod Core
 pub mod Accounts
 pub mod Arguments
 pub mod Shown
+pub mod Shared
+pub mod Needs
 pub mod Reached
 pub mod Reach
 pub mod Changes

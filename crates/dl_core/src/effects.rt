@@ -214,9 +214,12 @@ pub fn made(code: &Code, name: Name, kind: u32, frame: &mut Frame)
 }
 
 /// The next root was taken; no field refers to a root.
-pub fn took_root(number: u32, kind: u32, frame: &mut Frame)
+pub fn took_root(code: &Code, number: u32, kind: u32, frame: &mut Frame)
+    requires can { CanGoOn code.now frame.old }
     requires taken { frame.old.taken + 1 < 2 ^ 64 }
     requires book { finite.len frame.old.book.rows < frame.old.book.room }
+    requires loose { finite.len frame.old.book.rows < frame.old.loose.room }
+    ensures can { CanGoOn code.now frame.new }
     ensures shown { shown frame.new ≡ takes_root number kind (shown frame.old) }
     ensures rooms { rooms_of frame.new ≡ rooms_of frame.old }
 {
@@ -230,6 +233,7 @@ pub fn took_root(number: u32, kind: u32, frame: &mut Frame)
 
 /// So many places are reserved.
 pub fn reserved(need: u32, frame: &mut Frame)
+    ensures can { (code : Code) → CanGoOn code frame.old → CanGoOn code frame.new }
     ensures shown { shown frame.new ≡ reserves need (shown frame.old) }
     ensures rooms { rooms_of frame.new ≡ rooms_of frame.old }
 {

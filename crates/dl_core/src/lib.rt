@@ -20,7 +20,9 @@ mod ready;
 mod recounts;
 mod rests;
 mod roots;
+mod shared;
 mod stages;
+mod touches;
 
 pub use answers::{Event, Lock, Progress};
 pub use dues::Due;
