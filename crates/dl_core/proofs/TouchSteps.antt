@@ -1,6 +1,5 @@
 -- What an event at one object makes of the heap, as the program has it.
 use Rattle.std.proofs.Common.{◌≡◌, ℕ, ◌+◌, ◌-◌, ◌<◌, ◌≤◌, Bool, true, false, cond, Option, Some, None, refl, sym, ap, subst, ◌∙◌, arith}
-use Rattle.std.specs.Prelude.{is_some}
 use Rattle.std.specs.Option.{option_map}
 use Rattle.std.specs.FinMap as finite
 use Rattle.std.specs.FinMap.{len-insert, len-remove}
@@ -11,11 +10,10 @@ use Rattle.dl_core.specs.declared.answers.Event.{Event}
 use Rattle.dl_core.specs.declared.answers.Progress.{Progress}
 use Rattle.dl_core.specs.declared.answers.Progress.TheVariants as progress
 use Rattle.dl_core.specs.declared.dues.Due.{Due}
-use Rattle.dl_core.specs.declared.objects.Mark.{Mark}
 use Rattle.dl_core.specs.declared.objects.Object.{Object}
 use Rattle.dl_core.specs.declared.shared.Seen.{Seen}
 use Rattle.dl_core.specs.Core.{stands}
-use Rattle.dl_core.specs.Events.{act, event_of, with_mark}
+use Rattle.dl_core.specs.Events.{act, event_of}
 use Rattle.dl_core.specs.Frames.{Frame}
 use Rattle.dl_core.specs.Heaps.{Heap, put_at, field_of}
 use Rattle.dl_core.specs.Plans.{Plan}

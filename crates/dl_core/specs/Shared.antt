@@ -1,5 +1,5 @@
 -- What callers see and change of the objects that they share.
-use Rattle.std.specs.Prelude.{ℕ, Option, Some, None, slice_set}
+use Rattle.std.specs.Prelude.{ℕ, Option, Some, slice_set}
 use Rattle.std.specs.FinMap as finite
 use Rattle.dl_ir.specs.declared.names.Name.{Name}
 use Rattle.dl_ir.specs.declared.names.Value.{Value}

@@ -1,4 +1,4 @@
-use Rattle.std.proofs.Common.{◌≡◌, Some, refl, ap, sym, ◌∙◌}
+use Rattle.std.proofs.Common.{◌≡◌, Some, ap, sym, ◌∙◌}
 use Rattle.std.specs.FinMap as finite
 use Rattle.dl_core.specs.declared.answers.Event.TheVariants as events
 use Rattle.dl_core.specs.declared.dues.Due.TheVariants as dues
