@@ -26,6 +26,7 @@ pub mod RootNumbers
 pub mod FewRoots
 pub mod Replaced
 pub mod TouchSteps
+pub mod Resting
 pub mod Clearance
 pub mod HeapKept
 pub mod Fresh

@@ -13,6 +13,7 @@ pub mod Arguments
 pub mod Shown
 pub mod Shared
 pub mod Needs
+pub mod Parts
 pub mod Reached
 pub mod Reach
 pub mod Changes

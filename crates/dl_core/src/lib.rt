@@ -6,6 +6,7 @@ mod answers;
 mod bits;
 mod calls;
 mod codes;
+mod counters;
 mod dues;
 mod effects;
 mod frames;
