@@ -27,6 +27,8 @@ pub mod FewRoots
 pub mod Replaced
 pub mod TouchSteps
 pub mod Resting
+pub mod CoreSteps
+pub mod KeptSame
 pub mod Clearance
 pub mod HeapKept
 pub mod Fresh

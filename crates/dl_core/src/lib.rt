@@ -23,6 +23,7 @@ mod rests;
 mod roots;
 mod shared;
 mod stages;
+mod steps;
 mod touches;
 
 pub use answers::{Event, Lock, Progress};
