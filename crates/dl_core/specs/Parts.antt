@@ -1,6 +1,7 @@
 -- The parts of the state that the program keeps, and the state that they are.
 use Rattle.std.specs.Prelude.{◌≡◌, ◌+◌, ◌<◌, ◌≤◌, ◌^◌, ℕ, List, length, nat_lt, if◌then◌else◌, map}
 use Rattle.std.specs.FinMap as finite
+use Rattle.dl_ir.specs.declared.calls.Call.{Call}
 use Rattle.dl_ir.specs.Rows.{Rows}
 use Rattle.dl_instr.specs.declared.code.Code.{Code}
 use Rattle.dl_core.specs.declared.counters.Counters.{Counters}
@@ -11,10 +12,12 @@ use Rattle.dl_core.specs.declared.objects.Object.{Object}
 use Rattle.dl_core.specs.Accounts.{shown_account}
 use Rattle.dl_core.specs.Arguments.{HoldsCall}
 use Rattle.dl_core.specs.Core.{Account, Core}
-use Rattle.dl_core.specs.Frames.{Frame}
+use Rattle.dl_core.specs.Frames.{Frame, at_rest}
 use Rattle.dl_core.specs.Heaps.{Heap}
 use Rattle.dl_core.specs.Needs.{CanTouch}
-use Rattle.dl_core.specs.Shown.{shown}
+use Rattle.dl_core.specs.LocalSteps.{due, IsReady}
+use Rattle.dl_core.specs.Plans.{Plan}
+use Rattle.dl_core.specs.Shown.{shown, CanGoOn}
 
 -- the state that has these parts
 abbrev pub core_by : Heap → List Frame → List Account → Counters → Core
@@ -61,3 +64,18 @@ CanStep code kept heap counters (Reserves need) = CanAsk kept counters
 CanStep code kept heap counters Enters = CanEnter code kept counters
 CanStep code kept heap counters (Finishes end) = CanFinish kept counters
 CanStep code kept heap counters due = CanTouch kept heap due
+
+-- what giving a caller a step needs
+pub record CanAdvance (code : Code) (kept : Kept) (heap : Rows Object) (counters : Counters) : Type 0 where
+  pub can : CanGoOn code kept
+  pub ready : (plan : Plan) → plan.code ≡ code → IsReady plan (shown kept)
+  pub needs : (plan : Plan) → plan.code ≡ code → CanStep code kept heap counters (due plan (shown kept))
+
+-- what the begin of a call needs
+pub record CanBegin (code : Code) (kept : Kept) (call : Call) : Type 0 where
+  pub idle : shown kept ≡ at_rest kept.index (shown kept).finished
+  pub can : CanGoOn code kept
+  pub held : HoldsCall code call
+  pub index : kept.index + 1 < 2 ^ 32
+  pub args : length call.args ≤ kept.args.room
+  pub roots : length call.args ≤ kept.roots.room

@@ -33,7 +33,7 @@ returns-in_default c =
           let rows = c.args.heap.now.rows in
           let at = aimed c.args.due c.in_default.not-Nothing c.in_default.not-Reserves c.in_default.not-Enters c.in_default.not-Finishes in
           let same : set accounts c.args.caller (shown_account c.touch.new.frame) ≡ accounts =
-              ap (set accounts c.args.caller) (account_same c.touch.new.frame c.args.frame.now c.touch.ensures.rooms ∙ sym account) ∙ set-get_or accounts c.args.caller no_account in
+          ap (set accounts c.args.caller) (account_same c.touch.new.frame c.args.frame.now c.touch.ensures.rooms ∙ sym account) ∙ set-get_or accounts c.args.caller no_account in
           touch_steps plan rows frames accounts c.args.counters.now c.args.caller (shown c.args.frame.now) is c.args.due at.0 e at.1
           ∙ ap (λ (t : Touched). after_touch frames accounts c.args.counters.now c.args.caller t) (sym (c.touch.ensures.touched plan at.0 code at.1))
           ∙ ap (λ (accounts_now : List Account). (core_by c.touch.new.heap.rows (set frames c.args.caller (shown c.touch.new.frame)) accounts_now c.args.counters.now, c.touch.result)) (sym same);
