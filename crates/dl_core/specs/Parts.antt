@@ -63,7 +63,7 @@ abbrev pub CanStep : Code → Kept → Rows Object → Counters → Due → Type
 CanStep code kept heap counters (Reserves need) = CanAsk kept counters
 CanStep code kept heap counters Enters = CanEnter code kept counters
 CanStep code kept heap counters (Finishes end) = CanFinish kept counters
-CanStep code kept heap counters due = CanTouch kept heap due
+CanStep code kept heap counters due = CanTouch code kept heap due
 
 -- what giving a caller a step needs
 pub record CanAdvance (code : Code) (kept : Kept) (heap : Rows Object) (counters : Counters) : Type 0 where

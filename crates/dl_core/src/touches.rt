@@ -1,15 +1,15 @@
 // Events that touch one object, with what they make of the caller's frame.
-ghost use Rattle.std.specs.Prelude.{◌≡◌, ℕ, ◌+◌, ◌<◌, ◌≤◌, ◌^◌, [], Some, slice_get};
+ghost use Rattle.std.specs.Prelude.{◌≡◌, ℕ, ◌+◌, ◌<◌, ◌≤◌, ◌^◌, [], Some, slice_get, length};
 ghost use Rattle.std.specs.FinMap as finite;
 ghost use Rattle.dl_ir.specs.declared.names.Name.{Name};
 ghost use Rattle.dl_ir.specs.Heap.{root};
 ghost use Rattle.dl_core.specs.declared.dues.Due.TheVariants as dues;
 ghost use Rattle.dl_core.specs.Core.{stands, lock_of as lock_in};
 ghost use Rattle.dl_core.specs.Events.{aim};
-ghost use Rattle.dl_core.specs.Needs.{CanTouch};
+ghost use Rattle.dl_core.specs.Needs.{CanTake, CanMake, CanTouch};
 ghost use Rattle.dl_core.specs.Plans.{Plan};
 ghost use Rattle.dl_core.specs.Shared.{touched};
-ghost use Rattle.dl_core.specs.Shown.{shown, rooms_of, CanGoOn, HasFewRefs};
+ghost use Rattle.dl_core.specs.Shown.{shown, rooms_of, CanGoOn, HasFewRefs, IsAtStep, IsFewField};
 
 use crate::answers::{Event, Lock, Progress};
 use crate::dues::Due;
@@ -56,9 +56,8 @@ pub fn take_root(
     frame: &mut Frame,
 ) -> Progress
     requires can { CanGoOn code.now frame.old }
-    requires taken { frame.old.taken + 1 < 2 ^ 64 }
-    requires book { finite.len frame.old.book.rows < frame.old.book.room }
-    requires loose { finite.len frame.old.book.rows < frame.old.loose.room }
+    requires taken { frame.old.taken < length frame.old.roots.items }
+    requires more { CanTake frame.old heap.old (root number) }
     requires few { finite.len heap.old.rows ≤ heap.old.room }
     ensures touched { (plan : Plan) → plan.code ≡ code.now → (shown frame.new, heap.new.rows, result) ≡ touched plan caller heap.old.rows (root number) (dues.TakesRoot number) (shown frame.old) }
     ensures can { CanGoOn code.now frame.new }
@@ -92,7 +91,7 @@ pub fn read(
     frame: &mut Frame,
 ) -> Progress
     requires can { CanGoOn code.now frame.old }
-    requires place { frame.old.loose.items ≡ [] → frame.old.place + 1 < 2 ^ 64 }
+    requires step { IsAtStep code.now frame.old }
     ensures touched { (plan : Plan) (caller : ℕ) → plan.code ≡ code.now → (shown frame.new, heap.now.rows, result) ≡ touched plan caller heap.now.rows name (dues.Reads name field) (shown frame.old) }
     ensures can { CanGoOn code.now frame.new }
     ensures rooms { rooms_of frame.new ≡ rooms_of frame.old }
@@ -116,8 +115,8 @@ pub fn write(
     frame: &mut Frame,
 ) -> Progress
     requires can { CanGoOn code.now frame.old }
-    requires place { frame.old.loose.items ≡ [] → frame.old.place + 1 < 2 ^ 64 }
-    requires field { field + 1 < 2 ^ 32 }
+    requires step { IsAtStep code.now frame.old }
+    requires field { IsFewField frame.old field }
     requires refs { HasFewRefs frame.old }
     requires few { finite.len heap.old.rows ≤ heap.old.room }
     ensures touched { (plan : Plan) (caller : ℕ) → plan.code ≡ code.now → (shown frame.new, heap.new.rows, result) ≡ touched plan caller heap.old.rows name (dues.Writes name field value) (shown frame.old) }
@@ -145,9 +144,8 @@ pub fn take(
     frame: &mut Frame,
 ) -> Progress
     requires can { CanGoOn code.now frame.old }
-    requires place { frame.old.loose.items ≡ [] → frame.old.place + 1 < 2 ^ 64 }
-    requires book { finite.len frame.old.book.rows < frame.old.book.room }
-    requires loose { finite.len frame.old.book.rows < frame.old.loose.room }
+    requires step { IsAtStep code.now frame.old }
+    requires more { CanTake frame.old heap.old name }
     requires few { finite.len heap.old.rows ≤ heap.old.room }
     ensures touched { (plan : Plan) → plan.code ≡ code.now → (shown frame.new, heap.new.rows, result) ≡ touched plan caller heap.old.rows name (dues.Takes name) (shown frame.old) }
     ensures can { CanGoOn code.now frame.new }
@@ -246,11 +244,7 @@ pub fn make(
     frame: &mut Frame,
 ) -> Progress
     requires can { CanGoOn code.now frame.old }
-    requires place { frame.old.place + 1 < 2 ^ 64 }
-    requires made { frame.old.made + 1 < 2 ^ 32 }
-    requires book { finite.len frame.old.book.rows < frame.old.book.room }
-    requires loose { finite.len frame.old.book.rows < frame.old.loose.room }
-    requires room { finite.len heap.old.rows < heap.old.room }
+    requires may { CanMake code.now frame.old heap.old }
     requires few { finite.len heap.old.rows ≤ heap.old.room }
     ensures touched { (plan : Plan) → plan.code ≡ code.now → (shown frame.new, heap.new.rows, result) ≡ touched plan caller heap.old.rows name (dues.Makes name kind) (shown frame.old) }
     ensures can { CanGoOn code.now frame.new }
@@ -277,7 +271,7 @@ pub fn touch(
     frame: &mut Frame,
 ) -> Progress
     requires can { CanGoOn code.now frame.old }
-    requires needs { CanTouch frame.old heap.old due }
+    requires needs { CanTouch code.now frame.old heap.old due }
     requires few { finite.len heap.old.rows ≤ heap.old.room }
     ensures touched { (plan : Plan) (name : Name) → plan.code ≡ code.now → aim due ≡ Some name → (shown frame.new, heap.new.rows, result) ≡ touched plan caller heap.old.rows name due (shown frame.old) }
     ensures can { CanGoOn code.now frame.new }

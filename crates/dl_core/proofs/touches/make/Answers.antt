@@ -22,4 +22,4 @@ returns-in-None-clause-touched c plan e =
     (ap (λ (t : Rows Object). t.rows) c.put.ensures ∙ ap (finite.insert rows c.args.name) (c.new_object.ensures plan e))
 
 pub returns-in-None-clause-few : goal.returns-in-None-clause-few
-returns-in-None-clause-few c = few_put c.args.heap.now c.put.new.self c.args.name c.new_object.result c.put.ensures c.requires.room
+returns-in-None-clause-few c = few_put c.args.heap.now c.put.new.self c.args.name c.new_object.result c.put.ensures c.requires.may.room
