@@ -23,6 +23,11 @@ pub mod Moves
 pub mod Recounting
 pub mod RootNumbers
 pub mod FewRoots
+pub mod Replaced
+pub mod TouchSteps
+pub mod Resting
+pub mod CoreSteps
+pub mod KeptSame
 pub mod Clearance
 pub mod HeapKept
 pub mod Fresh
