@@ -21,6 +21,7 @@ kept_same a b s r = λ i. record {
   hand = (s i).hand;
   turns = (s i).turns;
   made = (s i).made;
+  emitted = (s i).emitted;
   spares = (s i).spares;
   book = record { rows = (s i).book; room = (r i).book };
   loose = record { items = (s i).loose; room = (r i).loose };
