@@ -28,6 +28,8 @@ pub mod TouchSteps
 pub mod Resting
 pub mod CoreSteps
 pub mod KeptSame
+pub mod Fits
+pub mod HeldFew
 pub mod Clearance
 pub mod HeapKept
 pub mod Fresh

@@ -1,3 +1,5 @@
+use Rattle.dl_core.proofs.HeldFew.{free_more}
+use Rattle.dl_core.proofs.Fits.{steps_need}
 use Rattle.std.proofs.Common.{ap, refl, ◌∙◌}
 use Rattle.dl_core.specs.LocalSteps.{due}
 use Rattle.dl_core.specs.Shown.{with_code}
