@@ -22,7 +22,7 @@ use Rattle.dl_core.specs.declared.stages.Stage.TheVariants as stages
 use Rattle.dl_core.specs.Advances.{RunsTo, ends, goes_on}
 use Rattle.dl_core.specs.Frames.{Frame}
 use Rattle.dl_core.specs.Turns.{Leaves}
-use Rattle.dl_coarse.specs.Sights.{Own, Turn, Sight, blank, note_of, together, own_of, own_after, settled, front_by, known_by, glanced, with_turn, with_clock, with_version}
+use Rattle.dl_coarse.specs.Sights.{Own, TurnTaken, Sight, blank, note_of, together, own_of, own_after, sight_after, front_by, known_by, glanced, with_turn, with_clock, with_version}
 use Rattle.dl_coarse.specs.Turn.{HasOwn, HasTurn, IsTurn, Got, Missed, GrabTells, MayGive, clocks, versions, sees, gives}
 
 get_set : {X : Type 0} (xs : List X) (j : ℕ) (v w : X) → get_elem? xs j ≡ some v → get_elem? (set xs j w) j ≡ some w
@@ -81,10 +81,10 @@ given_else number of to seat apart = ap (λ (b : Bool). cond b to seat) (ne_eqb 
 with_seat : {plan : Plan} {core : Core} {calls : Calls} {owner owner_then : ℕ → ℕ} {seat seat_then : ℕ} {own : Own} → HasOwn plan core calls owner seat own → owner_then own.number ≡ seat_then → HasOwn plan core calls owner_then seat_then own
 with_seat is there = record { at_seat = there; is_caller = is.is_caller; frame = is.frame; account = is.account; begun = is.begun }
 
-pub no_turn : {turn : Turn} → None ≡ Some turn → ⊥
+pub no_turn : {turn : TurnTaken} → None ≡ Some turn → ⊥
 no_turn same = cc same
 
-same_turn : {a b : Turn} → Some a ≡ Some b → a ≡ b
+same_turn : {a b : TurnTaken} → Some a ≡ Some b → a ≡ b
 same_turn same = cc same
 
 -- a caller's begun calls, and those of others, after one begin
@@ -132,7 +132,7 @@ module _ (views : List Sight) (id : ℕ) (v w : Sight) (at : get_elem? views id 
       (λ t. let old = h seat sight t.1 in let one = old.0 in let two = old.1 in (omega arith, omega arith))
       (at_set views id seat w sight there)
 
-has_turn_here : (core : Core) (words : List ℕ) (w sight : Sight) (t turn : Turn) → w ≡ sight → w.turn ≡ Some t → sight.turn ≡ Some turn → HasTurn core words w t → HasTurn core words sight turn
+has_turn_here : (core : Core) (words : List ℕ) (w sight : Sight) (t turn : TurnTaken) → w ≡ sight → w.turn ≡ Some t → sight.turn ≡ Some turn → HasTurn core words w t → HasTurn core words sight turn
 has_turn_here core words w sight t turn same has has_then is =
     let turns : t ≡ turn = same_turn (sym has ∙ ap (λ (u : Sight). u.turn) same ∙ has_then) in
     subst (λ (u : Sight). HasTurn core words u turn) same (subst (HasTurn core words w) turns is)
@@ -146,11 +146,11 @@ module _ {M : Type 0} (plan_of : M → Plan) (core_of : M → Core) (plan : Plan
 
   -- who has the turn has it alone
   module _ (s : St) (h : Kept s) where
-    number_of : (seat : ℕ) (sight : Sight) (turn : Turn) → get_elem? s.views seat ≡ some sight → sight.turn ≡ Some turn
+    number_of : (seat : ℕ) (sight : Sight) (turn : TurnTaken) → get_elem? s.views seat ≡ some sight → sight.turn ≡ Some turn
         → (own : Own) × HasOwn plan h.core h.calls h.owner seat own × (get_or s.words 0 0 ≡ own.number)
     number_of seat sight turn there has = let is = h.turns seat sight turn there has in (is.own, h.owns seat sight is.own there is.mine, is.word)
 
-    one_has : (i j : ℕ) (a b : Sight) (ta tb : Turn) → get_elem? s.views i ≡ some a → get_elem? s.views j ≡ some b → a.turn ≡ Some ta → b.turn ≡ Some tb → i ≡ j
+    one_has : (i j : ℕ) (a b : Sight) (ta tb : TurnTaken) → get_elem? s.views i ≡ some a → get_elem? s.views j ≡ some b → a.turn ≡ Some ta → b.turn ≡ Some tb → i ≡ j
     one_has i j a b ta tb at_i at_j has_i has_j =
         let x = number_of i a ta at_i has_i in
         let y = number_of j b tb at_j has_j in
@@ -172,7 +172,7 @@ module _ {M : Type 0} (plan_of : M → Plan) (core_of : M → Core) (plan : Plan
       let word : get_or words 0 0 ≡ number = get_or-set_same s.words 0 number 0 (let t = h.wide in omega arith) in
       let clock : get_or words 1 0 ≡ get_or s.words 1 0 = get_or_other s.words 0 1 number (λ e. omega (arith, e)) in
       let version : get_or words 2 0 ≡ get_or s.words 2 0 = get_or_other s.words 0 2 number (λ e. omega (arith, e)) in
-      let turn : Turn = record { core = core_of home.machine; clock = (core_of home.machine).clock; version = (core_of home.machine).pool.version } in
+      let turn : TurnTaken = record { core = core_of home.machine; clock = (core_of home.machine).clock; version = (core_of home.machine).pool.version } in
       let clock_is : (core_of home.machine).clock ≡ h.core.clock = ap (λ (c : Core). c.clock) home.same_core in
       let version_is : (core_of home.machine).pool.version ≡ h.core.pool.version = ap (λ (c : Core). c.pool.version) home.same_core in
       let has : HasTurn h.core words w turn = record {
@@ -266,10 +266,10 @@ module _ {M : Type 0} (plan_of : M → Plan) (core_of : M → Core) (plan : Plan
       ))
 
   -- who has the turn writes a word that is not the turn's, or looks at one
-  in_turn : (s : St) (h : Kept s) (id i x : ℕ) (v w : Sight) (turn : Turn) → get_elem? s.views id ≡ some v → w.owns ≡ v.owns → i ≢ 0 → w.turn ≡ Some turn
+  in_turn : (s : St) (h : Kept s) (id i x : ℕ) (v w : Sight) (turn : TurnTaken) → get_elem? s.views id ≡ some v → w.owns ≡ v.owns → i ≢ 0 → w.turn ≡ Some turn
       → get_or s.words 1 0 ≤ get_or (set s.words i x) 1 0 → get_or s.words 2 0 ≤ get_or (set s.words i x) 2 0
       → HasTurn h.core (set s.words i x) w turn → w.front ≡ v.front → w.known ≡ v.known
-      → (was : Turn) → v.turn ≡ Some was
+      → (was : TurnTaken) → v.turn ≡ Some was
       → Kept (record { words = set s.words i x; homes = s.homes; views = set s.views id w })
   in_turn s h id i x v w turn at same_owns not_first has up_clock up_version is same_front same_known was had =
       let words : List ℕ = set s.words i x in
@@ -297,7 +297,7 @@ module _ {M : Type 0} (plan_of : M → Plan) (core_of : M → Core) (plan : Plan
       }
 
   -- the last ticket is written
-  pub clocked : (slots id clock : ℕ) (me : Me (Option M) Sight) (turn : Turn) → me.0.turn ≡ Some turn → turn.clock ≤ clock
+  pub clocked : (slots id clock : ℕ) (me : Me (Option M) Sight) (turn : TurnTaken) → me.0.turn ≡ Some turn → turn.clock ≤ clock
       → Allows Kept slots id me 1 (λ _. clock) (λ _. clocks (step slots 1 clock 0 none) me clock)
   clocked slots id clock me turn has up s h wide at small =
       let is = h.turns id me.0 turn at has in
@@ -322,11 +322,11 @@ module _ {M : Type 0} (plan_of : M → Plan) (core_of : M → Core) (plan : Plan
         keeps,
         tt,
         in_turn s h id 1 clock me.0 w (record turn { clock = clock }) at refl (λ e. omega (arith, e)) refl (omega arith) (omega arith) has_then refl refl turn has,
-        λ other has_other. ap (λ (t : Turn). (with_clock clock t (glanced (Stored 1) me.0), me.1)) (same_turn (sym has ∙ has_other)),
+        λ other has_other. ap (λ (t : TurnTaken). (with_clock clock t (glanced (Stored 1) me.0), me.1)) (same_turn (sym has ∙ has_other)),
       )
 
   -- the version is written
-  pub versioned : (slots id version : ℕ) (me : Me (Option M) Sight) (turn : Turn) → me.0.turn ≡ Some turn → turn.version ≤ version
+  pub versioned : (slots id version : ℕ) (me : Me (Option M) Sight) (turn : TurnTaken) → me.0.turn ≡ Some turn → turn.version ≤ version
       → Allows Kept slots id me 2 (λ _. version) (λ _. versions (step slots 2 version 0 none) me version)
   versioned slots id version me turn has up s h wide at small =
       let is = h.turns id me.0 turn at has in
@@ -351,11 +351,11 @@ module _ {M : Type 0} (plan_of : M → Plan) (core_of : M → Core) (plan : Plan
         keeps,
         tt,
         in_turn s h id 2 version me.0 w (record turn { version = version }) at refl (λ e. omega (arith, e)) refl (omega arith) (omega arith) has_then refl refl turn has,
-        λ other has_other. ap (λ (t : Turn). (with_version version t (glanced (Stored 2) me.0), me.1)) (same_turn (sym has ∙ has_other)),
+        λ other has_other. ap (λ (t : TurnTaken). (with_version version t (glanced (Stored 2) me.0), me.1)) (same_turn (sym has ∙ has_other)),
       )
 
   -- the version is read
-  pub seen : (slots id : ℕ) (me : Me (Option M) Sight) (turn : Turn) → me.0.turn ≡ Some turn
+  pub seen : (slots id : ℕ) (me : Me (Option M) Sight) (turn : TurnTaken) → me.0.turn ≡ Some turn
       → Allows Kept slots id me 2 (λ n. n) (sees (step slots 2 0 0 none) me)
   seen slots id me turn has s h wide at small =
       let is = h.turns id me.0 turn at has in
@@ -379,7 +379,7 @@ module _ {M : Type 0} (plan_of : M → Plan) (core_of : M → Core) (plan : Plan
         keeps,
         tt,
         in_turn s h id 2 x me.0 w turn at refl (λ e. omega (arith, e)) has (omega arith) (omega arith) has_then refl refl turn has,
-        λ other has_other. let same : turn ≡ other = same_turn (sym has ∙ has_other) in (is.version ∙ ap (λ (t : Turn). t.version) same, ap (λ (t : Turn). (glanced (Loaded 2 t.version) me.0, me.1)) same),
+        λ other has_other. let same : turn ≡ other = same_turn (sym has ∙ has_other) in (is.version ∙ ap (λ (t : TurnTaken). t.version) same, ap (λ (t : TurnTaken). (glanced (Loaded 2 t.version) me.0, me.1)) same),
       )
 
   -- what a pass knows after an operation is no more than the core that it leaves
@@ -405,9 +405,9 @@ module _ {M : Type 0} (plan_of : M → Plan) (core_of : M → Core) (plan : Plan
 
   -- the core is given back after one more operation, and the turn with it
   pub given : (slots id : ℕ) (me : Me (Option M) Sight) (machine : M) (call : Call) (answer : Progress) → MayGive plan_of core_of plan me.0 machine call answer → me.1 ≡ (0, Some machine) ∷ [] → 0 < slots
-      → Allows Kept slots id me 0 (λ _. 0) (λ _. gives (settled (core_of machine) call answer me.0) (step slots 0 0 0 none) me 0)
+      → Allows Kept slots id me 0 (λ _. 0) (λ _. gives (sight_after (core_of machine) call answer me.0) (step slots 0 0 0 none) me 0)
   given slots id me machine call answer may carried slot s h wide at small =
-      let after : Sight = settled (core_of machine) call answer me.0 in
+      let after : Sight = sight_after (core_of machine) call answer me.0 in
       let is = h.turns id me.0 may.turn at may.has in
       let own : Own = own_of me.0 in
       let core : Core = core_of machine in
@@ -531,7 +531,7 @@ module _ {M : Type 0} (plan_of : M → Plan) (core_of : M → Core) (plan : Plan
       let theirs = h.known other w was in
       let up = max-le mine.0 theirs.0 in
       let up_known = max-le mine.1 theirs.1 in
-      let outside : (seat : ℕ) (sight : Sight) (turn : Turn) → get_elem? s.views seat ≡ some sight → sight.turn ≡ Some turn → (seat ≢ id) × (seat ≢ other)
+      let outside : (seat : ℕ) (sight : Sight) (turn : TurnTaken) → get_elem? s.views seat ≡ some sight → sight.turn ≡ Some turn → (seat ≢ id) × (seat ≢ other)
       = λ seat sight turn is has. (
         (λ same. no_turn (sym v_out ∙ ap (λ (u : Sight). u.turn) (some-injective v sight (sym at ∙ sym (ap (get_elem? s.views) same) ∙ is)) ∙ has)),
         (λ same. no_turn (sym w_out ∙ ap (λ (u : Sight). u.turn) (some-injective w sight (sym was ∙ sym (ap (get_elem? s.views) same) ∙ is)) ∙ has)),
@@ -598,7 +598,7 @@ module _ {M : Type 0} (plan_of : M → Plan) (core_of : M → Core) (plan : Plan
       let owner : ℕ → ℕ = λ (number : ℕ). given_to number own.number (length vs) (h.owner number) in
       let ours : (other : Own) → Contains (own ∷ others) other → HasOwn plan h.core h.calls h.owner id other = λ other there. h.owns id v other at (subst (λ (owns : List Own). Contains owns other) (sym all) there) in
       let mine : HasOwn plan h.core h.calls h.owner id own = ours own (first_in own others) in
-      let outside : (seat : ℕ) (sight : Sight) (turn : Turn) → get_elem? s.views seat ≡ some sight → sight.turn ≡ Some turn → seat ≢ id
+      let outside : (seat : ℕ) (sight : Sight) (turn : TurnTaken) → get_elem? s.views seat ≡ some sight → sight.turn ≡ Some turn → seat ≢ id
       = λ seat sight turn is has same. no_turn (sym out ∙ ap (λ (u : Sight). u.turn) (some-injective v sight (sym at ∙ sym (ap (get_elem? s.views) same) ∙ is)) ∙ has) in record {
         core = h.core;
         calls = h.calls;

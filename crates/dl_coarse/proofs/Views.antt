@@ -22,7 +22,7 @@ use Rattle.dl_core.specs.Plans.{Plan, source_of, size_of}
 use Rattle.dl_core.specs.Reached.{with_begun, begins, MayBegin}
 use Rattle.dl_core.specs.Turns.{MayRun, Leaves}
 use Rattle.dl_coarse.specs.Marks.{IsMarked, MayMark, LookBy, StaysBy}
-use Rattle.dl_coarse.specs.Sights.{Own, Turn, Sight, IsResting, own_of, glanced, with_turn, settled, view_with}
+use Rattle.dl_coarse.specs.Sights.{Own, TurnTaken, Sight, IsResting, own_of, glanced, with_turn, sight_after, view_with}
 use Rattle.dl_coarse.specs.Turn.{Got, Missed, MayGive}
 use Rattle.dl_coarse.proofs.Keeps.{begun_own}
 
@@ -60,7 +60,7 @@ module _ {M : Type 0} (plan_of : M → Plan) (core_of : M → Core) (plan : Plan
       leaves : Leaves plan (core_of machine) (own_of before).number call answer (core_of then)
       leaves = subst (λ (p : Plan). Leaves p (core_of machine) (own_of before).number call answer (core_of then)) got.same_plan leaves_there
 
-      abbrev turn : Turn
+      abbrev turn : TurnTaken
       turn = record { core = core_of machine; clock = (core_of machine).clock; version = (core_of machine).pool.version }
 
       stays_by : (given : Progress) → Leaves plan (core_of machine) (own_of before).number call given (core_of then) → StaysBy given turn (core_of then)
@@ -83,7 +83,7 @@ module _ {M : Type 0} (plan_of : M → Plan) (core_of : M → Core) (plan : Plan
           → marked.0 ≡ marked_sight marked.0.look
       is_marked me_got marked same is =
           is.sight ∙ ap (λ (s : Sight). record s { turn = marked.0.turn; look = marked.0.look }) same
-          ∙ ap (λ (t : Option Turn). record before { turn = t; look = marked.0.look }) (is.turn_then turn (ap (λ (s : Sight). s.turn) same))
+          ∙ ap (λ (t : Option TurnTaken). record before { turn = t; look = marked.0.look }) (is.turn_then turn (ap (λ (s : Sight). s.turn) same))
 
       may_give_sight : (look : Look) → MayGive plan_of core_of plan (marked_sight look) then call answer
       may_give_sight look = record {
@@ -107,7 +107,7 @@ module _ {M : Type 0} (plan_of : M → Plan) (core_of : M → Core) (plan : Plan
       own = own_of before
 
       takes_place : (given : Progress) (sight : Sight) → Leaves plan (core_of machine) own.number call given (core_of then)
-          → TakesPlace OneTurn plan (view_with (Some call) before) given (view_with None (settled (core_of then) call given (record before { turn = sight.turn; look = sight.look })))
+          → TakesPlace OneTurn plan (view_with (Some call) before) given (view_with None (sight_after (core_of then) call given (record before { turn = sight.turn; look = sight.look })))
       takes_place given sight is =
           let few = got.is_caller.to_last in let many = got.frames in let lists = got.lists in record {
             core = with_call (core_of machine) own.number call;
@@ -137,7 +137,7 @@ module _ {M : Type 0} (plan_of : M → Plan) (core_of : M → Core) (plan : Plan
       index_is = let a = ap (λ (f : Frame). f.index) got.has_frame in let b = resting.index in let m = many_calls in omega arith
 
       is_done : (entry : Entry) (sight : Sight) → Leaves plan (core_of machine) own.number call (progress.Done entry) (core_of then)
-          → IsDone OneTurn plan (view_with (Some call) before) entry (view_with None (settled (core_of then) call (progress.Done entry) (record before { turn = sight.turn; look = sight.look })))
+          → IsDone OneTurn plan (view_with (Some call) before) entry (view_with None (sight_after (core_of then) call (progress.Done entry) (record before { turn = sight.turn; look = sight.look })))
       is_done entry sight is =
           let by = is.leaves_by in
           let front = got.front in
@@ -162,7 +162,7 @@ module _ {M : Type 0} (plan_of : M → Plan) (core_of : M → Core) (plan : Plan
 
       is_turned_away : (need found version old : ℕ) (sight : Sight) → Leaves plan (core_of machine) own.number call (progress.Refused need found version) (core_of then)
           → old ≡ (core_of machine).pool.version → sight.look ≡ looked (Loaded 2 old) (looked (Compared 0 0) before.look)
-          → IsTurnedAway OneTurn plan (view_with (Some call) before) need found version (view_with None (settled (core_of then) call (progress.Refused need found version) (record before { turn = sight.turn; look = sight.look })))
+          → IsTurnedAway OneTurn plan (view_with (Some call) before) need found version (view_with None (sight_after (core_of then) call (progress.Refused need found version) (record before { turn = sight.turn; look = sight.look })))
       is_turned_away need found version old sight is was look_is =
           let by = is.leaves_by in
           let known = got.known in
@@ -186,7 +186,7 @@ module _ {M : Type 0} (plan_of : M → Plan) (core_of : M → Core) (plan : Plan
 
       progresses_by : (given : Progress) (old : ℕ) (sight : Sight) → Leaves plan (core_of machine) own.number call given (core_of then) → old ≡ (core_of machine).pool.version
           → LookBy given old (looked (Compared 0 0) before.look) sight.look
-          → Progresses OneTurn plan (view_with (Some call) before) given (view_with None (settled (core_of then) call given (record before { turn = sight.turn; look = sight.look })))
+          → Progresses OneTurn plan (view_with (Some call) before) given (view_with None (sight_after (core_of then) call given (record before { turn = sight.turn; look = sight.look })))
       progresses_by (progress.Done entry) old sight is was look = is_done entry sight is
       progresses_by (progress.Refused need found version) old sight is was look = is_turned_away need found version old sight is was look
       progresses_by (progress.Moved event) old sight is was look = absurd is.leaves_by
@@ -197,9 +197,9 @@ module _ {M : Type 0} (plan_of : M → Plan) (core_of : M → Core) (plan : Plan
 
       pub progresses : (old : ℕ) (me_got marked : Me (Option M) Sight) (sight : Sight) → old ≡ (core_of machine).pool.version
           → me_got.0 ≡ with_turn (core_of machine) (glanced (Compared 0 0) before) → IsMarked (core_of then).clock (core_of then).pool.version me_got marked
-          → LookBy answer old me_got.0.look marked.0.look → sight ≡ settled (core_of then) call answer marked.0
+          → LookBy answer old me_got.0.look marked.0.look → sight ≡ sight_after (core_of then) call answer marked.0
           → Progresses OneTurn plan (view_with (Some call) before) answer (view_with None sight)
       progresses old me_got marked sight was same is look settled_is =
           let whole : marked.0 ≡ record before { turn = marked.0.turn; look = marked.0.look } = is.sight ∙ ap (λ (s : Sight). record s { turn = marked.0.turn; look = marked.0.look }) same in
-          subst (λ (s : Sight). Progresses OneTurn plan (view_with (Some call) before) answer (view_with None s)) (sym (settled_is ∙ ap (settled (core_of then) call answer) whole))
+          subst (λ (s : Sight). Progresses OneTurn plan (view_with (Some call) before) answer (view_with None s)) (sym (settled_is ∙ ap (sight_after (core_of then) call answer) whole))
           (progresses_by answer old marked.0 leaves was (subst (λ (l : Look). LookBy answer old l marked.0.look) (ap (λ (s : Sight). s.look) same) look))

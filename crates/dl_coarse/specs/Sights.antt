@@ -19,7 +19,7 @@ pub record Own : Type 0 where
   pub account : Account
 
 -- the turn: the core that was taken with it, and what the words of the ticket and of the version hold
-pub record Turn : Type 0 where
+pub record TurnTaken : Type 0 where
   pub core : Core
   pub clock : ℕ
   pub version : ℕ
@@ -27,7 +27,7 @@ pub record Turn : Type 0 where
 -- what a seat knows. That of a pass has one caller's own; that of a note, and one that a join leaves behind, has nobody's
 pub record Sight : Type 0 where
   pub owns : List Own
-  pub turn : Option Turn
+  pub turn : Option TurnTaken
   pub front : ℕ
   pub known : ℕ
   pub look : Look
@@ -36,11 +36,11 @@ abbrev pub coded_own : Coded Own
 coded_own = code_by (ℕ × (List Call × (Frame × Account))) (coded× coded_ℕ (coded× (coded_list coded_call) (coded× coded_frame coded_account)))
     (λ o. (o.number, (o.calls, (o.frame, o.account)))) (λ p. record { number = p.0; calls = p.1.0; frame = p.1.1.0; account = p.1.1.1 }) (λ _. refl)
 
-abbrev pub coded_turn : Coded Turn
+abbrev pub coded_turn : Coded TurnTaken
 coded_turn = code_by (Core × (ℕ × ℕ)) (coded× coded_core (coded× coded_ℕ coded_ℕ)) (λ t. (t.core, (t.clock, t.version))) (λ p. record { core = p.0; clock = p.1.0; version = p.1.1 }) (λ _. refl)
 
 abbrev pub coded_sight : Coded Sight
-coded_sight = code_by (List Own × (Option Turn × (ℕ × (ℕ × Look)))) (coded× (coded_list coded_own) (coded× (coded_option coded_turn) (coded× coded_ℕ (coded× coded_ℕ coded_look))))
+coded_sight = code_by (List Own × (Option TurnTaken × (ℕ × (ℕ × Look)))) (coded× (coded_list coded_own) (coded× (coded_option coded_turn) (coded× coded_ℕ (coded× coded_ℕ coded_look))))
     (λ s. (s.owns, (s.turn, (s.front, (s.known, s.look))))) (λ p. record { owns = p.0; turn = p.1.0; front = p.1.1.0; known = p.1.1.1.0; look = p.1.1.1.1 }) (λ _. refl)
 
 -- nothing is known
@@ -67,10 +67,10 @@ abbrev pub with_turn : Core → Sight → Sight
 with_turn core sight = record sight { turn = Some (record { core = core; clock = core.clock; version = core.pool.version }) }
 
 -- the last ticket, and the version, were written
-abbrev pub with_clock : ℕ → Turn → Sight → Sight
+abbrev pub with_clock : ℕ → TurnTaken → Sight → Sight
 with_clock clock turn sight = record sight { turn = Some (record turn { clock = clock }) }
 
-abbrev pub with_version : ℕ → Turn → Sight → Sight
+abbrev pub with_version : ℕ → TurnTaken → Sight → Sight
 with_version version turn sight = record sight { turn = Some (record turn { version = version }) }
 
 -- what a note knows
@@ -96,8 +96,8 @@ abbrev pub own_after : Core → Call → Own → Own
 own_after core call own = record { number = own.number; calls = own.calls ++ call ∷ []; frame = frame_of core.world own.number; account = account_of core own.number }
 
 -- the turn was given back after an operation
-abbrev pub settled : Core → Call → Progress → Sight → Sight
-settled core call answer sight = record {
+abbrev pub sight_after : Core → Call → Progress → Sight → Sight
+sight_after core call answer sight = record {
   owns = own_after core call (own_of sight) ∷ [];
   turn = None;
   front = front_by answer sight.front;

@@ -13,7 +13,7 @@ use Rattle.dl_core.specs.Core.{Core, frame_of, account_of}
 use Rattle.dl_core.specs.Reached.{Calls, calls_of, IsReached}
 use Rattle.dl_core.specs.Passes.{Compared, Stored, Loaded}
 use Rattle.dl_core.specs.Turns.{Leaves}
-use Rattle.dl_coarse.specs.Sights.{Own, Turn, Sight, own_of, glanced, with_turn, with_clock, with_version}
+use Rattle.dl_coarse.specs.Sights.{Own, TurnTaken, Sight, own_of, glanced, with_turn, with_clock, with_version}
 
 -- one caller's own is that of the core shown, and this seat has it
 pub record HasOwn (plan : Plan) (core : Core) (calls : Calls) (owner : ℕ → ℕ) (seat : ℕ) (own : Own) : Type 0 where
@@ -24,7 +24,7 @@ pub record HasOwn (plan : Plan) (core : Core) (calls : Calls) (owner : ℕ → �
   pub begun : calls_of calls own.number ≡ own.calls
 
 -- a seat has the turn: the word says so, it has taken the core shown, and the words hold what it knows of them
-pub record HasTurn (core : Core) (words : List ℕ) (sight : Sight) (turn : Turn) : Type 0 where
+pub record HasTurn (core : Core) (words : List ℕ) (sight : Sight) (turn : TurnTaken) : Type 0 where
   pub own : Own
   pub mine : Contains sight.owns own
   pub word : get_or words 0 0 ≡ own.number
@@ -48,7 +48,7 @@ module _ {M : Type 0} (plan_of : M → Plan) (core_of : M → Core) where
   pub record IsOut (s : State (Option M) Sight) : Type 0 where
     pub seat : ℕ
     pub sight : Sight
-    pub turn : Turn
+    pub turn : TurnTaken
     pub there : get_elem? s.views seat ≡ some sight
     pub has : sight.turn ≡ Some turn
 
@@ -65,7 +65,7 @@ module _ {M : Type 0} (plan_of : M → Plan) (core_of : M → Core) where
     pub wide : length s.words ≡ 3
     pub free : get_or s.words 0 0 ≡ 0 → IsHome plan core s
     pub out : get_or s.words 0 0 ≢ 0 → IsOut s
-    pub turns : (seat : ℕ) (sight : Sight) (turn : Turn) → get_elem? s.views seat ≡ some sight → sight.turn ≡ Some turn → HasTurn core s.words sight turn
+    pub turns : (seat : ℕ) (sight : Sight) (turn : TurnTaken) → get_elem? s.views seat ≡ some sight → sight.turn ≡ Some turn → HasTurn core s.words sight turn
     pub owns : (seat : ℕ) (sight : Sight) (own : Own) → get_elem? s.views seat ≡ some sight → Contains sight.owns own → HasOwn plan core calls owner seat own
     pub known : (seat : ℕ) (sight : Sight) → get_elem? s.views seat ≡ some sight → (sight.front ≤ get_or s.words 1 0) × (sight.known ≤ get_or s.words 2 0)
 
@@ -102,7 +102,7 @@ module _ {M : Type 0} (plan_of : M → Plan) (core_of : M → Core) where
 
   -- an operation has run on the core that was taken, and its seat may give the core and the turn back
   pub record MayGive (plan : Plan) (before : Sight) (machine : M) (call : Call) (answer : Progress) : Type 0 where
-    pub turn : Turn
+    pub turn : TurnTaken
     pub has : before.turn ≡ Some turn
     pub one : before.owns ≡ own_of before ∷ []
     pub fits : IsCallOf (source_of plan) call
@@ -126,14 +126,14 @@ module _ {M : Type 0} where
 
   -- the last ticket was written, by who has the turn; and the version
   abbrev pub clocks : Step (Option M) → Me (Option M) Sight → ℕ → Me (Option M) Sight → Type 0
-  clocks st before written after = (turn : Turn) → before.0.turn ≡ Some turn → after ≡ (with_clock written turn (glanced (Stored 1) before.0), before.1)
+  clocks st before written after = (turn : TurnTaken) → before.0.turn ≡ Some turn → after ≡ (with_clock written turn (glanced (Stored 1) before.0), before.1)
 
   abbrev pub versions : Step (Option M) → Me (Option M) Sight → ℕ → Me (Option M) Sight → Type 0
-  versions st before written after = (turn : Turn) → before.0.turn ≡ Some turn → after ≡ (with_version written turn (glanced (Stored 2) before.0), before.1)
+  versions st before written after = (turn : TurnTaken) → before.0.turn ≡ Some turn → after ≡ (with_version written turn (glanced (Stored 2) before.0), before.1)
 
   -- the version was read
   abbrev pub sees : Step (Option M) → Me (Option M) Sight → ℕ → Me (Option M) Sight → Type 0
-  sees st before found after = (turn : Turn) → before.0.turn ≡ Some turn → (found ≡ turn.version) × (after ≡ (glanced (Loaded 2 turn.version) before.0, before.1))
+  sees st before found after = (turn : TurnTaken) → before.0.turn ≡ Some turn → (found ≡ turn.version) × (after ≡ (glanced (Loaded 2 turn.version) before.0, before.1))
 
   -- the turn was given back, and the seat knows this
   abbrev pub gives : Sight → Step (Option M) → Me (Option M) Sight → ℕ → Me (Option M) Sight → Type 0

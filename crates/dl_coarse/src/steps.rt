@@ -3,8 +3,8 @@ ghost use Rattle.std.specs.Prelude.{◌≡◌, ◌≢◌, ◌<◌, ◌≤◌, �
 ghost use Rattle.dl_core.specs.Passes.{Compared, Loaded, Stored};
 ghost use Rattle.dl_core.specs.Turns.{call_of};
 ghost use Rattle.dl_core.specs.Plans.{Plan};
-ghost use Rattle.dl_coarse.specs.Sights.{Sight, own_of, glanced, with_clock, with_version, settled};
-ghost use Rattle.dl_coarse.specs.Sights.{Turn as TheTurn};
+ghost use Rattle.dl_coarse.specs.Sights.{Sight, own_of, glanced, with_clock, with_version, sight_after};
+ghost use Rattle.dl_coarse.specs.Sights.{TurnTaken};
 ghost use Rattle.dl_coarse.specs.Turn.{Got, Missed, MayGive, after_got};
 
 use crate::machines::Machine;
@@ -132,9 +132,9 @@ pub(crate) fn write_clock<M: Machine>(
     clock: u64,
 )
     requires table { (seat.old.table_id ≡ table.now.table_id) × (table.now.table_id.words ≡ 3) }
-    requires turn { (turn : TheTurn) × (seat.old.me.0.turn ≡ Some turn) × (turn.clock ≤ clock) }
+    requires turn { (turn : TurnTaken) × (seat.old.me.0.turn ≡ Some turn) × (turn.clock ≤ clock) }
     ensures seat { (seat.new.table_id ≡ seat.old.table_id) × (seat.new.id ≡ seat.old.id) }
-    ensures written { (turn : TheTurn) → seat.old.me.0.turn ≡ Some turn → seat.new.me ≡ (with_clock clock turn (glanced (Stored 1) seat.old.me.0), seat.old.me.1) }
+    ensures written { (turn : TurnTaken) → seat.old.me.0.turn ≡ Some turn → seat.new.me ≡ (with_clock clock turn (glanced (Stored 1) seat.old.me.0), seat.old.me.1) }
 {
     table.store::<Clocks>(seat, 1, clock);
 }
@@ -146,9 +146,9 @@ pub(crate) fn write_version<M: Machine>(
     version: u64,
 )
     requires table { (seat.old.table_id ≡ table.now.table_id) × (table.now.table_id.words ≡ 3) }
-    requires turn { (turn : TheTurn) × (seat.old.me.0.turn ≡ Some turn) × (turn.version ≤ version) }
+    requires turn { (turn : TurnTaken) × (seat.old.me.0.turn ≡ Some turn) × (turn.version ≤ version) }
     ensures seat { (seat.new.table_id ≡ seat.old.table_id) × (seat.new.id ≡ seat.old.id) }
-    ensures written { (turn : TheTurn) → seat.old.me.0.turn ≡ Some turn → seat.new.me ≡ (with_version version turn (glanced (Stored 2) seat.old.me.0), seat.old.me.1) }
+    ensures written { (turn : TurnTaken) → seat.old.me.0.turn ≡ Some turn → seat.new.me ≡ (with_version version turn (glanced (Stored 2) seat.old.me.0), seat.old.me.1) }
 {
     table.store::<Versions>(seat, 2, version);
 }
@@ -156,9 +156,9 @@ pub(crate) fn write_version<M: Machine>(
 /// Reads the version of the pool.
 pub(crate) fn see_version<M: Machine>(table: &Words<M>, seat: &mut Seat<Option<M>, Hold>) -> u64
     requires table { (seat.old.table_id ≡ table.now.table_id) × (table.now.table_id.words ≡ 3) }
-    requires turn { (turn : TheTurn) × (seat.old.me.0.turn ≡ Some turn) }
+    requires turn { (turn : TurnTaken) × (seat.old.me.0.turn ≡ Some turn) }
     ensures seat { (seat.new.table_id ≡ seat.old.table_id) × (seat.new.id ≡ seat.old.id) }
-    ensures read { (turn : TheTurn) → seat.old.me.0.turn ≡ Some turn → seat.new.me ≡ (glanced (Loaded 2 turn.version) seat.old.me.0, seat.old.me.1) }
+    ensures read { (turn : TurnTaken) → seat.old.me.0.turn ≡ Some turn → seat.new.me ≡ (glanced (Loaded 2 turn.version) seat.old.me.0, seat.old.me.1) }
 {
     table.load::<Sees>(seat, 2)
 }
@@ -174,9 +174,9 @@ fn give_at<M: Machine, N: Settled>(
     requires table { (seat.old.table_id ≡ table.now.table_id) × (table.now.table_id.words ≡ 3) × (table.now.table_id.slots ≡ 1) }
     requires may { MayGive M.plan M.core (M.plan table.now.key) seat.old.me.0 machine (call_of op args.now) answer.now }
     requires slot { seat.old.me.1 ≡ (0, None) ∷ [] }
-    requires named { N.sight ≡ settled (M.core machine) (call_of op args.now) answer.now seat.old.me.0 }
+    requires named { N.sight ≡ sight_after (M.core machine) (call_of op args.now) answer.now seat.old.me.0 }
     ensures seat { (seat.new.table_id ≡ seat.old.table_id) × (seat.new.id ≡ seat.old.id) }
-    ensures settled { seat.new.me ≡ (N.sight, []) }
+    ensures sight_after { seat.new.me ≡ (N.sight, []) }
 {
     let _ = op;
     let _ = args;
@@ -198,7 +198,7 @@ pub(crate) fn give<M: Machine>(
     requires may { MayGive M.plan M.core (M.plan table.now.key) seat.old.me.0 machine (call_of op args.now) answer.now }
     requires slot { seat.old.me.1 ≡ (0, None) ∷ [] }
     ensures seat { (seat.new.table_id ≡ seat.old.table_id) × (seat.new.id ≡ seat.old.id) }
-    ensures settled { seat.new.me ≡ (settled (M.core machine) (call_of op args.now) answer.now seat.old.me.0, []) }
+    ensures sight_after { seat.new.me ≡ (sight_after (M.core machine) (call_of op args.now) answer.now seat.old.me.0, []) }
 {
     give_at::<M, Brand>(table, seat, machine, op, args, answer)
 }

@@ -8,7 +8,7 @@ ghost use Rattle.dl_core.specs.Plans.{source_of, size_of};
 ghost use Rattle.dl_core.specs.declared.answers.Lock.TheVariants as locks;
 ghost use Rattle.dl_coarse.specs.Marks.{IsMarked, MayMark, LookBy};
 ghost use Rattle.dl_coarse.specs.Sights.{IsResting, own_of, view_with};
-ghost use Rattle.dl_coarse.specs.Sights.{Turn as TheTurn};
+ghost use Rattle.dl_coarse.specs.Sights.{TurnTaken};
 
 use crate::machines::Machine;
 use crate::rule::Hold;
@@ -25,7 +25,7 @@ fn write_both<M: Machine>(
     version: u64,
 )
     requires table { (seat.old.table_id ≡ table.now.table_id) × (table.now.table_id.words ≡ 3) }
-    requires turn { (turn : TheTurn) × (seat.old.me.0.turn ≡ Some turn) × (turn.clock ≤ clock) × (old ≡ turn.version) × (turn.version ≤ version) }
+    requires turn { (turn : TurnTaken) × (seat.old.me.0.turn ≡ Some turn) × (turn.clock ≤ clock) × (old ≡ turn.version) × (turn.version ≤ version) }
     ensures seat { (seat.new.table_id ≡ seat.old.table_id) × (seat.new.id ≡ seat.old.id) }
     ensures marked { IsMarked clock version seat.old.me seat.new.me }
 {

@@ -23,6 +23,13 @@ pub mod Moves
 pub mod Recounting
 pub mod RootNumbers
 pub mod FewRoots
+pub mod Replaced
+pub mod TouchSteps
+pub mod Resting
+pub mod CoreSteps
+pub mod KeptSame
+pub mod Fits
+pub mod HeldFew
 pub mod Clearance
 pub mod HeapKept
 pub mod Fresh
@@ -63,3 +70,5 @@ pub mod StepsKeep
 pub mod FreshSound
 pub mod BeginKeeps
 pub mod LawfulAlways
+pub mod Elements
+pub mod Small

@@ -23,8 +23,8 @@ abbrev pub all_of : {X : Type 0} → List (List X) → List X
 all_of lists = flat_map (λ list. list) lists
 
 -- the entries of all callers, in rising tickets
-abbrev pub history_in : Closed → List Entry
-history_in closed = in_rising (λ (entry : Entry). entry.ticket) (all_of closed.entries)
+abbrev pub history_left : Closed → List Entry
+history_left closed = in_rising (λ (entry : Entry). entry.ticket) (all_of closed.entries)
 
 -- what is left is what the passes kept; and there is a state to which a run comes with their calls, that has what they kept and no
 -- running operation, of which heap and free places are left
@@ -40,9 +40,9 @@ pub record EndsOn (plan : Plan) (views : List PassView) (closed : Closed) : Type
 
 -- merged, what is left is legal and lawful over the calls, the heap is the replayed one, and the places that hold no object are free
 pub record IsLawfulEnd (plan : Plan) (calls : List (List Call)) (closed : Closed) : Type 0 where
-  pub legal : IsLegal (source_of plan) calls plan.heap (history_in closed)
-  pub pool : IsLawfulPool plan.places (source_of plan) calls plan.heap (history_in closed) (all_of closed.refusals)
-  pub heap : closed.heap.objects ≡ replayed (source_of plan) calls plan.heap (history_in closed)
+  pub legal : IsLegal (source_of plan) calls plan.heap (history_left closed)
+  pub pool : IsLawfulPool plan.places (source_of plan) calls plan.heap (history_left closed) (all_of closed.refusals)
+  pub heap : closed.heap.objects ≡ replayed (source_of plan) calls plan.heap (history_left closed)
   pub free : closed.free + hidden_count closed.heap.objects ≡ plan.places
 
 -- the passes are those of the callers, in order, and each is idle

@@ -12,6 +12,9 @@ pub mod Core
 pub mod Accounts
 pub mod Arguments
 pub mod Shown
+pub mod Shared
+pub mod Needs
+pub mod Parts
 pub mod Reached
 pub mod Reach
 pub mod Changes

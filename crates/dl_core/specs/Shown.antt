@@ -7,6 +7,7 @@ use Rattle.dl_ir.specs.declared.answers.Refusal.{Refusal}
 use Rattle.dl_ir.specs.declared.names.Name.{Name}
 use Rattle.dl_ir.specs.declared.modules.KindDecl.{KindDecl}
 use Rattle.dl_instr.specs.declared.code.Code.{Code}
+use Rattle.dl_instr.specs.declared.steps.Step.{Step}
 use Rattle.dl_core.specs.declared.dues.Due.{Due}
 use Rattle.dl_core.specs.declared.stages.Booked.{Booked}
 use Rattle.dl_core.specs.declared.frames.Frame.{Frame as Kept}
@@ -130,3 +131,15 @@ HasFewRefs kept = (name : Name) (booked : Booked) → finite.get kept.book.rows 
 -- the code of each operation goes back to loops' tests alone
 abbrev pub HasTurns : Code → Type 0
 HasTurns code = (op : ℕ) → GoesBackToTurns (get_or code.ops op [])
+
+-- the code has a step at the frame's place
+abbrev pub HasStep : Code → Kept → Type 0
+HasStep code kept = (step : Step) × (slice_get (get_or code.ops kept.op []) kept.place ≡ Some step)
+
+-- it has one unless a loose object is worked off
+abbrev pub IsAtStep : Code → Kept → Type 0
+IsAtStep code kept = kept.loose.items ≡ [] → HasStep code kept
+
+-- while an object is given up, the field behind this one can be counted
+abbrev pub IsFewField : Kept → ℕ → Type 0
+IsFewField kept field = (name : Name) → slice_get kept.loose.items 0 ≡ Some name → field + 1 < 2 ^ 32

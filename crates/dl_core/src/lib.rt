@@ -6,6 +6,7 @@ mod answers;
 mod bits;
 mod calls;
 mod codes;
+mod counters;
 mod dues;
 mod effects;
 mod frames;
@@ -20,7 +21,10 @@ mod ready;
 mod recounts;
 mod rests;
 mod roots;
+mod shared;
 mod stages;
+mod steps;
+mod touches;
 
 pub use answers::{Event, Lock, Progress};
 pub use dues::Due;

@@ -1,10 +1,11 @@
 ghost use Rattle.std.specs.Prelude.{◌≡◌, ◌<◌, ◌++◌, ◌∷◌, [], length};
 ghost use Rattle.std.specs.FinMap as finite;
 ghost use Rattle.dl_core.specs.Frames.{at_rest};
+ghost use Rattle.dl_instr.specs.declared.code.Code.{Code};
 ghost use Rattle.dl_core.specs.Accounts.{shown_account};
 ghost use Rattle.dl_core.specs.Core.{entry_of as entry_with};
 ghost use Rattle.dl_core.specs.Events.{refused as refuses, finished as finishes, finish_of};
-ghost use Rattle.dl_core.specs.Shown.{shown, memory_of};
+ghost use Rattle.dl_core.specs.Shown.{shown, memory_of, CanGoOn, HasTurns};
 
 use crate::frames::Frame;
 use crate::stages::Stage;
@@ -16,6 +17,7 @@ fn rest(frame: &mut Frame)
     ensures shown { shown frame.new ≡ at_rest frame.old.index (shown frame.old).finished }
     ensures account { shown_account frame.new ≡ shown_account frame.old }
     ensures entries { frame.new.entries ≡ frame.old.entries }
+    ensures can { (code : Code) → HasTurns code → CanGoOn code frame.old → CanGoOn code frame.new }
     ensures memory { memory_of frame.new ≡ memory_of frame.old }
 {
     frame.stage = Stage::Idle;
@@ -44,6 +46,7 @@ pub fn refused(refusal: Refusal, frame: &mut Frame)
     ensures shown { shown frame.new ≡ refuses (shown frame.old) }
     ensures account { shown_account frame.new ≡ record (shown_account frame.old) { refusals = (shown_account frame.old).refusals ++ refusal ∷ [] } }
     ensures entries { frame.new.entries ≡ frame.old.entries }
+    ensures can { (code : Code) → HasTurns code → CanGoOn code frame.old → CanGoOn code frame.new }
     ensures memory { memory_of frame.new ≡ memory_of frame.old }
 {
     frame.refusals.push(refusal);
@@ -77,6 +80,7 @@ pub fn finished(caller: u32, end: End, returned_at: u64, frame: &mut Frame) -> E
     ensures shown { shown frame.new ≡ finishes end (shown frame.old) }
     ensures account { shown_account frame.new ≡ record (shown_account frame.old) { reserved_at = 0; versions = (shown_account frame.old).versions ++ record { reserved_at = frame.old.reserved_at; returned_at = returned_at } ∷ [] } }
     ensures entries { frame.new.entries.items ≡ frame.old.entries.items ++ result ∷ [] }
+    ensures can { (code : Code) → HasTurns code → CanGoOn code frame.old → CanGoOn code frame.new }
     ensures memory { memory_of frame.new ≡ memory_of frame.old }
 {
     let entry = entry_of(caller, end, returned_at, frame);

@@ -16,10 +16,10 @@ use Rattle.dl_shape.proofs.Rising.{put_moves}
 use Rattle.dl_core.specs.Passes.{PassView, IsIdle, entries_in, refusals_in}
 use Rattle.dl_ir.specs.declared.closed.Closed.{Closed}
 use Rattle.dl_core.specs.Plans.{Plan, IsPlan}
-use Rattle.dl_core.specs.Closing.{all_of, begun_on, history_in, AreDone, EndsOn, IsLawfulEnd}
+use Rattle.dl_core.specs.Closing.{all_of, begun_on, history_left, AreDone, EndsOn, IsLawfulEnd}
 use Rattle.dl_core.proofs.Names.{same_some}
 use Rattle.dl_order.specs.Ends.{RunsClose}
-use Rattle.dl_machine.specs.Files.{call_in, HasServed, IsRun, calls_on}
+use Rattle.dl_machine.specs.Files.{call_in, HasServed, RunsFiles, calls_on}
 
 -- putting in order changes no count
 module _ {X : Type 0} (key : X → ℕ) (p : X → Bool) where
@@ -244,9 +244,9 @@ are_done : (views : List PassView) → HaveRun 1 views → AreDone views
 are_done views h at view there = let is = done_from 1 views h at view there in let number = is.1 in (is.0, omega (arith, number))
 
 -- what is left is what a run of the files leaves
-pub is_run : RunsClose → (plan : Plan) (files : List (List Call)) (views : List PassView) (closed : Closed) → IsPlan plan → HaveRun 1 views → begun_on views ≡ files → EndsOn plan views closed → IsRun plan files closed
+pub is_run : RunsClose → (plan : Plan) (files : List (List Call)) (views : List PassView) (closed : Closed) → IsPlan plan → HaveRun 1 views → begun_on views ≡ files → EndsOn plan views closed → RunsFiles plan files closed
 is_run close plan files views closed is run same on = record {
-  covers = subst (λ (all : List (List Call)). Covers all (history_in closed) (all_of closed.refusals)) same
+  covers = subst (λ (all : List (List Call)). Covers all (history_left closed) (all_of closed.refusals)) same
       (subst (λ (entries : List (List Entry)). Covers (begun_on views) (in_rising key (all_of entries)) (all_of closed.refusals)) (sym on.entries)
       (subst (λ (refusals : List (List Refusal)). Covers (begun_on views) (in_rising key (all_of (map entries_in views))) (all_of refusals)) (sym on.refusals) (covers_from views run)));
   lawful = subst (λ (all : List (List Call)). IsLawfulEnd plan all closed) same (close plan views closed is (are_done views run) on);

@@ -8,7 +8,7 @@ use Rattle.dl_ir.specs.CallForms.{IsCallOf}
 use Rattle.dl_core.specs.Plans.{Plan, source_of}
 use Rattle.dl_core.specs.Passes.{PassView, fresh_pass}
 use Rattle.dl_core.specs.Closing.{AreFresh, AreIdle}
-use Rattle.dl_machine.specs.Files.{IsReadyFor, HasServed, AreReady, HaveServed, callers_of}
+use Rattle.dl_machine.specs.Files.{IsReadyFor, HasServed, AreReady, HaveServed, callers_on}
 use Rattle.dl_machine.proofs.Serving.{serves_none}
 
 module _ {P : Type 0} (plan : Plan) (is_of : P → Type 0) (view : P → PassView) where
@@ -66,11 +66,11 @@ module _ {P : Type 0} (plan : Plan) (is_of : P → Type 0) (view : P → PassVie
       ready_at at file size all = let next : suc at ≡ at + 1 = omega arith in subst (λ caller. IsReadyFor plan file (fresh_pass plan caller)) next (fresh_ready at file size all)
 
 module _ {P : Type 0} (view : P → PassView) where
-  caller_at : (ps qs : List P) (at : ℕ) (p q : P) → callers_of view ps ≡ callers_of view qs → slice_get ps at ≡ Some p → slice_get qs at ≡ Some q → (view p).caller ≡ (view q).caller
+  caller_at : (ps qs : List P) (at : ℕ) (p q : P) → callers_on view ps ≡ callers_on view qs → slice_get ps at ≡ Some p → slice_get qs at ≡ Some q → (view p).caller ≡ (view q).caller
   caller_at [] qs at p q same p_there q_there = cc p_there
   caller_at (x ∷ xs) [] at p q same p_there q_there = cc q_there
   caller_at (x ∷ xs) (y ∷ ys) zero p q same p_there q_there = cc (same, p_there, q_there)
-  caller_at (x ∷ xs) (y ∷ ys) (suc at) p q same p_there q_there = let t : callers_of view xs ≡ callers_of view ys = cc same in caller_at xs ys at p q t p_there q_there
+  caller_at (x ∷ xs) (y ∷ ys) (suc at) p q same p_there q_there = let t : callers_on view xs ≡ callers_on view ys = cc same in caller_at xs ys at p q t p_there q_there
 
 pub there_at : {X : Type 0} (xs : List X) (at : ℕ) → at < length xs → (x : X) × (slice_get xs at ≡ Some x)
 there_at [] at within = absurd (omega arith)
@@ -78,7 +78,7 @@ there_at (x ∷ xs) zero within = (x, refl)
 there_at (x ∷ xs) (suc at) within = there_at xs at (omega arith)
 
 module _ {P : Type 0} (plan : Plan) (is_of : P → Type 0) (view : P → PassView) (old new : List P) (fresh : AreFresh plan is_of view old) (served : HaveServed is_of view new)
-    (callers : callers_of view new ≡ callers_of view old) (same : length new ≡ length old) where
+    (callers : callers_on view new ≡ callers_on view old) (same : length new ≡ length old) where
   pub served_at : (at : ℕ) (pass : P) → slice_get new at ≡ Some pass → is_of pass × HasServed (view pass)
   served_at at pass there = subst (λ p. is_of p × HasServed (view p)) (get_or_from_slice_get new at pass pass there) (served at pass (slice_get_within new at pass there))
 

@@ -8,7 +8,7 @@ use Rattle.dl_ir.specs.CallForms.{IsCallOf}
 use Rattle.dl_ir.specs.Cover.{runs_of, refusals_of, one_if_there, Covers}
 use Rattle.dl_core.specs.Plans.{Plan, source_of, size_of}
 use Rattle.dl_core.specs.Passes.{PassView, entries_in, refusals_in, IsIdle}
-use Rattle.dl_core.specs.Closing.{IsLawfulEnd, history_in, all_of}
+use Rattle.dl_core.specs.Closing.{IsLawfulEnd, history_left, all_of}
 
 -- the call of this index, counted from 1
 abbrev pub call_in : List Call → ℕ → Option Call
@@ -54,10 +54,10 @@ module _ {Pass : Type 0} (view : Pass → PassView) where
   abbrev pub calls_on : List Pass → List (List Call)
   calls_on passes = map (λ pass. (view pass).calls) passes
 
-  abbrev pub callers_of : List Pass → List ℕ
-  callers_of passes = map (λ pass. (view pass).caller) passes
+  abbrev pub callers_on : List Pass → List ℕ
+  callers_on passes = map (λ pass. (view pass).caller) passes
 
 -- what a run of files leaves: each operation once, in its file's order, and what is left is legal and lawful over the files
-pub record IsRun (plan : Plan) (files : List (List Call)) (closed : Closed) : Type 0 where
-  pub covers : Covers files (history_in closed) (all_of closed.refusals)
+pub record RunsFiles (plan : Plan) (files : List (List Call)) (closed : Closed) : Type 0 where
+  pub covers : Covers files (history_left closed) (all_of closed.refusals)
   pub lawful : IsLawfulEnd plan files closed

@@ -15,10 +15,10 @@ use Rattle.dl_core.specs.Plans.{Plan, IsPlan, source_of}
 use Rattle.dl_core.specs.Frames.{Frame}
 use Rattle.dl_core.specs.Core.{Account, frame_of, entry_of, entries_of, refusals_of}
 use Rattle.dl_core.specs.Passes.{PassView, entries_in, refusals_in}
-use Rattle.dl_core.specs.Closing.{EndsOn, IsLawfulEnd, AreDone, all_of, begun_on, history_in as history_left}
+use Rattle.dl_core.specs.Closing.{EndsOn, IsLawfulEnd, AreDone, all_of, begun_on, history_left}
 use Rattle.dl_core.specs.Sound.{IsSound, numbers_from}
 use Rattle.dl_core.proofs.LawfulAlways.{lawful_always}
-use Rattle.dl_order.specs.Ends.{AreAllIdle, IsRun, RunsClose, history_in, refusals_in as all_refusals}
+use Rattle.dl_order.specs.Ends.{AreAllIdle, IsRunOver, RunsClose, history_in, all_refusals}
 use Rattle.dl_order.proofs.Ends.{runs_end}
 
 found : {X : Type 0} (xs : List X) (at : ℕ) → at < length xs → (x : X) × (slice_get xs at ≡ Some x)
@@ -60,7 +60,7 @@ module _ (plan : Plan) (views : List PassView) (closed : Closed) (is : IsPlan pl
         ap (λ (c : ℕ). (frame_of on.core.world c).stage) (sym here) ∙ ap (λ (f : Frame). f.stage) (on.frames at view.0 view.1) ∙ (done at view.0 view.1).0.stage
   ]
 
-  run : IsRun plan on.core calls
+  run : IsRunOver plan on.core calls
   run = runs_end plan on.core calls is on.reached resting
 
   entries_same : (at : ℕ) (view : PassView) → slice_get views at ≡ Some view → entries_in view ≡ entries_of on.core (1 + at)

@@ -44,10 +44,10 @@ use Rattle.dl_core.specs.Sound.{IsSound, callers_of, numbers_from, moves_in, mov
 use Rattle.dl_core.proofs.Names.{same_number, same_some, no_some}
 use Rattle.dl_core.proofs.Plain.{get_plain, plain_refs}
 use Rattle.dl_core.proofs.LawfulAlways.{lawful_always}
-use Rattle.dl_order.specs.Ends.{AreAllIdle, history_in, refusals_in, IsRun, RunsEnd}
+use Rattle.dl_order.specs.Ends.{AreAllIdle, history_in, all_refusals, IsRunOver, RunsEnd}
 use Rattle.dl_order.proofs.Always.{serial_on}
 use Rattle.dl_order.proofs.Histories.{told, same_pieces}
-use Rattle.dl_order.proofs.Lists.{Each, In, Up, each_in, each_map, each_of, each_all, all_each, in_contains, contains_in, pairs_up, up_pairs}
+use Rattle.dl_core.proofs.Elements.{Each, In, Up, each_in, each_map, each_of, each_all, all_each, in_contains, contains_in, pairs_up, up_pairs}
 use Rattle.dl_order.proofs.Orders.{IsInOrder, IsRefusalOf, all_in_order}
 use Rattle.dl_order.proofs.Pieces.{no_last, map_pieces, pieces_of_pieces, rising_changed, in_piece, in_rising_in, each_pieces, pairs_in, rise_together, count_none, none_there, one_there, tally, tally_pieces, tally_rising, change_up_to, fold_tally}
 use Rattle.dl_order.proofs.Serial.{IsReplayOf}
@@ -244,7 +244,7 @@ module _ (plan : Plan) (is : IsPlan plan) (core : Core) (calls : Calls) (reached
   orders : (c : ℕ) → IsInOrder (frame_of core.world c) (account_of core c) core.clock c
   orders c = all_in_order plan is core calls reached c
 
-  refused_by : (refusal : Refusal) → In refusal (refusals_in plan core) → In refusal (refusals_of core refusal.caller)
+  refused_by : (refusal : Refusal) → In refusal (all_refusals plan core) → In refusal (refusals_of core refusal.caller)
   refused_by refusal there =
       let piece = in_piece (refusals_of core) refusal (callers_of plan) there in
       let fact = each_in (IsRefusalOf piece.0 (frame_of core.world piece.0).index) refusal (refusals_of core piece.0) (orders piece.0).refused piece.1.1 in
@@ -303,7 +303,7 @@ module _ (plan : Plan) (is : IsPlan plan) (core : Core) (calls : Calls) (reached
             (λ r fact. ap (λ b. (r.caller == caller) && b) (ne_eqb r.index index (λ same. not_it r.index fact.1 fact.2 same)) ∙ and_false (r.caller == caller)) (orders caller).refused))
       ]
 
-      none_of_it : runs_of caller index (history_in plan core) + refusals_of_call caller index (refusals_in plan core) ≡ one_if_there (call_at calls caller index)
+      none_of_it : runs_of caller index (history_in plan core) + refusals_of_call caller index (all_refusals plan core) ≡ one_if_there (call_at calls caller index)
       none_of_it =
           let no_call = no_call_at calls caller index (elim out [ inl z ↦ inl z | inr lt ↦ inr (omega (arith, lt, (sound.each caller).history.begun)) ]) in
           omega (
@@ -314,7 +314,7 @@ module _ (plan : Plan) (is : IsPlan plan) (core : Core) (calls : Calls) (reached
             none_there is_refusal (refusals_of core) 1 (length plan.sizes) (λ n low high. outer_refusals n),
           )
 
-    one_of_it : 0 < index → index ≤ (frame_of core.world caller).index → runs_of caller index (history_in plan core) + refusals_of_call caller index (refusals_in plan core) ≡ one_if_there (call_at calls caller index)
+    one_of_it : 0 < index → index ≤ (frame_of core.world caller).index → runs_of caller index (history_in plan core) + refusals_of_call caller index (all_refusals plan core) ≡ one_if_there (call_at calls caller index)
     one_of_it low high =
         let begun = (sound.each caller).history.begun in
         let range = in_calls calls caller (omega (arith, low, high, begun)) in
@@ -330,13 +330,13 @@ module _ (plan : Plan) (is : IsPlan plan) (core : Core) (calls : Calls) (reached
           one_there is_refusal (refusals_of core) caller 1 (length plan.sizes) (omega (arith, range.0)) (omega (arith, range.1, sound.lists)) other_refusals,
         )
 
-    once : runs_of caller index (history_in plan core) + refusals_of_call caller index (refusals_in plan core) ≡ one_if_there (call_at calls caller index)
+    once : runs_of caller index (history_in plan core) + refusals_of_call caller index (all_refusals plan core) ≡ one_if_there (call_at calls caller index)
     once = elim (cases_lt 0 index) [
       | inr le ↦ none_of_it (inl (omega arith))
       | inl low ↦ elim (cases_lt (frame_of core.world caller).index index) [ inl lt ↦ none_of_it (inr lt) | inr high ↦ one_of_it low high ]
     ]
 
-  covers : Covers calls (history_in plan core) (refusals_in plan core)
+  covers : Covers calls (history_in plan core) (all_refusals plan core)
   covers = record { once = once; in_order = in_order }
 
   -- ---- the pool
@@ -384,7 +384,7 @@ module _ (plan : Plan) (is : IsPlan plan) (core : Core) (calls : Calls) (reached
   due_now : (refusal : Refusal) → IsDue source calls plan.places plan.heap (moves_in plan core calls) refusal → IsDue source calls plan.places plan.heap (moves_of source calls (history_in plan core)) refusal
   due_now refusal due = record { need = due.need; found = due.found ∙ sym (free_same refusal.version); short = due.short; seen = omega (arith, due.seen, as_many, sound.log.count) }
 
-  pool : IsLawfulPool plan.places source calls plan.heap (history_in plan core) (refusals_in plan core)
+  pool : IsLawfulPool plan.places source calls plan.heap (history_in plan core) (all_refusals plan core)
   pool = record {
     in_range = in_range;
     each_once = λ version low high.
@@ -392,7 +392,7 @@ module _ (plan : Plan) (is : IsPlan plan) (core : Core) (calls : Calls) (reached
         ∙ sound.log.each_once version low (omega (arith, high, as_many));
     never_negative = λ version high. subst (λ (n : ℤ). pos 0 ≤ℤ n) (sym (free_same version)) (sound.log.never_negative version (omega (arith, high, as_many)));
     returns = returns;
-    due = each_all (IsDue source calls plan.places plan.heap (moves_of source calls (history_in plan core))) (refusals_in plan core)
+    due = each_all (IsDue source calls plan.places plan.heap (moves_of source calls (history_in plan core))) (all_refusals plan core)
         (each_pieces (IsDue source calls plan.places plan.heap (moves_of source calls (history_in plan core))) (refusals_of core) (callers_of plan)
         (λ c. each_map (IsDue source calls plan.places plan.heap (moves_in plan core calls)) (IsDue source calls plan.places plan.heap (moves_of source calls (history_in plan core))) (refusals_of core c) due_now
         (all_each (IsDue source calls plan.places plan.heap (moves_in plan core calls)) (refusals_of core c) (sound.log.due c))));
@@ -405,10 +405,10 @@ module _ (plan : Plan) (is : IsPlan plan) (core : Core) (calls : Calls) (reached
         (in_contains b (entries_of core a.caller) (subst (λ c. In b (entries_of core c)) (sym same) (of_caller b (contains_in b (history_in plan core) inb)).0)) less;
     not_before = λ e r ine inr same less.
         (sound.each e.caller).order.not_before e r (in_contains e (entries_of core e.caller) (of_caller e (contains_in e (history_in plan core) ine)).0)
-        (in_contains r (refusals_of core e.caller) (subst (λ c. In r (refusals_of core c)) (sym same) (refused_by r (contains_in r (refusals_in plan core) inr)))) less;
+        (in_contains r (refusals_of core e.caller) (subst (λ c. In r (refusals_of core c)) (sym same) (refused_by r (contains_in r (all_refusals plan core) inr)))) less;
     before = λ e r ine inr same less.
         (sound.each e.caller).order.before e r (in_contains e (entries_of core e.caller) (of_caller e (contains_in e (history_in plan core) ine)).0)
-        (in_contains r (refusals_of core e.caller) (subst (λ c. In r (refusals_of core c)) (sym same) (refused_by r (contains_in r (refusals_in plan core) inr)))) less;
+        (in_contains r (refusals_of core e.caller) (subst (λ c. In r (refusals_of core c)) (sym same) (refused_by r (contains_in r (all_refusals plan core) inr)))) less;
   }
 
   -- ---- the heap
@@ -456,7 +456,7 @@ module _ (plan : Plan) (is : IsPlan plan) (core : Core) (calls : Calls) (reached
   unsealed : IsForestClosed source plan.heap → All (λ (entry : Entry). IsUnsealed entry.answer) (history_in plan core)
   unsealed closed = never_seals source calls plan.heap (history_in plan core) all_of_module closed legal
 
-  is_run : IsRun plan core calls
+  is_run : IsRunOver plan core calls
   is_run = record { covers = covers; legal = legal; pool = pool; unsealed = unsealed; refusals = refusals_stand; heap = heap_is; free = free; again = record { of_module = sound.heap; one_field = one_field; room = omega (arith, free) } }
 
 pub runs_end : RunsEnd

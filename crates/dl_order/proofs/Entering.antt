@@ -35,7 +35,7 @@ use Rattle.dl_core.proofs.Names.{same_number}
 use Rattle.dl_core.proofs.LawfulAlways.{lawful_always}
 use Rattle.dl_core.proofs.LoneRunsEnd.{lone_runs_end}
 use Rattle.dl_order.proofs.Histories.{legal_tickets, told, history_pushes}
-use Rattle.dl_order.proofs.Lists.{Each, In, each_of, each_in, each_map, each_append, in_first, in_last, up_push, up_same}
+use Rattle.dl_core.proofs.Elements.{Each, In, each_of, each_in, each_map, each_append, in_first, in_last, up_push, up_same}
 use Rattle.dl_order.proofs.Runs.{turns_aside, turns_then, turn_frame, alone_frame, alone_long, turn_long, turn_over, turn_inv}
 use Rattle.dl_order.proofs.Serial.{IsRow, IsReplayOf, IsSerialOn, none_entered, replay_entry, replay_as, IsCalledFor, for_places, for_a_root, for_a_ticket, called_for, waiting_due, no_lookup, call_begun, world_of, not_called_past}
 use Rattle.dl_order.proofs.Worlds.{IsWorldOf, IsOther, stands_of, nowhere_unentered, ordered}

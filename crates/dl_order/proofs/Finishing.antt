@@ -12,7 +12,7 @@ use Rattle.dl_core.specs.Reach.{ticket_in}
 use Rattle.dl_core.proofs.Diamond.{Touch, Leaves, Puts, Acts, Moves, step→moves}
 use Rattle.dl_order.specs.Serial.{IsFinishedBy}
 use Rattle.dl_order.proofs.Keeping.{touch_one}
-use Rattle.dl_order.proofs.Lists.{Each, In, Up}
+use Rattle.dl_core.proofs.Elements.{Each, In, Up}
 use Rattle.dl_order.proofs.Runs.{IsNone, alone_frame, turn_frame, alone_inv, last_run}
 use Rattle.dl_order.proofs.Serial.{IsRow}
 use Rattle.dl_order.proofs.Worlds.{IsWorldOf, IsOther, Comes, inside_is, new_frame, has_frame, nowhere_unentered, world_kept, ordered}

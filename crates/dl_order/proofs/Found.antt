@@ -41,7 +41,7 @@ use Rattle.dl_core.proofs.Typing.{field_names}
 use Rattle.dl_core.proofs.Why as why
 use Rattle.dl_core.proofs.Why.{Why, IsGivenUp}
 use Rattle.dl_order.specs.Found.{IsThere, IsNamedBy, in_the_book, by_a_local, by_the_hand, in_the_list, AllIsThere, HoldersAreCallers, EmptyObjectsComeAndGo}
-use Rattle.dl_order.proofs.Lists.{In, each_in, all_each, contains_in}
+use Rattle.dl_core.proofs.Elements.{In, each_in, all_each, contains_in}
 use Rattle.dl_order.proofs.Progress.{root_of_call}
 
 either : (a b : Bool) → (a || b) ≡ false → a ≡ false

@@ -20,7 +20,7 @@ use Rattle.dl_core.specs.Reached.{Calls, with_begun}
 use Rattle.dl_order.specs.Serial.{finished_entries as told_by, history_of}
 use Rattle.dl_core.specs.Sound.{numbers_from}
 use Rattle.dl_core.proofs.Names.{same_number}
-use Rattle.dl_order.proofs.Lists.{Each, each_map, each_rising, rising_more}
+use Rattle.dl_core.proofs.Elements.{Each, each_map, each_rising, rising_more}
 
 -- ---- more calls
 

@@ -1,4 +1,3 @@
-pub mod Lists
 pub mod Runs
 pub mod Acting
 pub mod Keeping
@@ -21,5 +20,4 @@ pub mod Closes
 pub mod Found
 pub mod Given
 pub mod Answering
-pub mod Small
 pub mod Looking

@@ -14,7 +14,7 @@ use Rattle.dl_core.proofs.Machine.{step_is}
 use Rattle.dl_order.specs.Lengths.{steps_in_turn}
 use Rattle.dl_order.specs.Measure.{steps_to_end, RestsAreOne, OneStepLess, OldestMoves}
 use Rattle.dl_order.proofs.Always.{one_less, serial_on}
-use Rattle.dl_order.proofs.Lists.{In, each_of, each_in, in_contains, contains_in, pairs_up, up_rises}
+use Rattle.dl_core.proofs.Elements.{In, each_of, each_in, in_contains, contains_in, pairs_up, up_rises}
 use Rattle.dl_order.proofs.Runs.{InTurnIn, turn_one}
 use Rattle.dl_order.proofs.Serial.{IsRow, row_runs, IsLeft}
 use Rattle.dl_order.proofs.Worlds.{nowhere_unentered, moves_step}

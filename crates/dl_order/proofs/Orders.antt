@@ -21,7 +21,7 @@ use Rattle.dl_core.proofs.LawfulAlways.{lawful_always}
 use Rattle.dl_order.proofs.Always.{asks_when, finishes_when, touches_when, Touches, runs_on, at_root}
 use Rattle.dl_order.proofs.Entering.{enters_when}
 use Rattle.dl_order.proofs.Keeping.{touch_one}
-use Rattle.dl_order.proofs.Lists.{Each, Up, each_map, each_append, up_push}
+use Rattle.dl_core.proofs.Elements.{Each, Up, each_map, each_append, up_push}
 use Rattle.dl_order.proofs.Serial.{not_called_past}
 use Rattle.dl_order.proofs.Worlds.{entered_busy, stands_of, has_frame, idle_rests}
 

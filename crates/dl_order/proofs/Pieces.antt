@@ -10,7 +10,7 @@ use Rattle.dl_ir.specs.declared.moves.Move.{Move}
 use Rattle.dl_shape.specs.Rising.{put_by, in_rising}
 use Rattle.dl_core.specs.Sound.{numbers_from}
 use Rattle.dl_core.proofs.Names.{same_number}
-use Rattle.dl_order.proofs.Lists.{Each, In, Up, each_in, each_of, each_all}
+use Rattle.dl_core.proofs.Elements.{Each, In, Up, each_in, each_of, each_all}
 
 -- a last piece with nothing in it may be left out
 pub no_last : {Y : Type 0} (f : ℕ → List Y) (first count : ℕ) → f (first + count) ≡ [] → flat_map f (numbers_from first (suc count)) ≡ flat_map f (numbers_from first count)

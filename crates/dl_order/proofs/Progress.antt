@@ -42,7 +42,7 @@ use Rattle.dl_core.proofs.Plain.{get_plain}
 use Rattle.dl_core.proofs.LawfulAlways.{lawful_always}
 use Rattle.dl_order.specs.Measure.{SomeoneMoves}
 use Rattle.dl_order.proofs.Always.{serial_on}
-use Rattle.dl_order.proofs.Lists.{Each}
+use Rattle.dl_core.proofs.Elements.{Each}
 use Rattle.dl_order.proofs.Serial.{IsRow, IsCalledFor, for_places, for_a_root, for_a_ticket, called_for, waiting_due, not_called_past}
 use Rattle.dl_order.proofs.Waits.{for_roots}
 use Rattle.dl_order.proofs.Worlds.{stands_of, nowhere_unentered, unentered, moves_step}

@@ -5,7 +5,7 @@ use Rattle.dl_core.specs.Steps.{World, Nowhere, Rules, frame_by, with_frame_by, 
 use Rattle.dl_core.proofs.Diamond.{Moves, moves→step, step→moves, Clear, diamond, frame_aside}
 use Rattle.dl_core.proofs.Names.{same_number}
 use Rattle.dl_order.specs.Lengths.{steps_alone, steps_in_turn}
-use Rattle.dl_order.proofs.Lists.{In}
+use Rattle.dl_core.proofs.Elements.{In}
 
 one_some : {A : Type 0} {a b : A} {o : Option A} → o ≡ Some a → o ≡ Some b → a ≡ b
 one_some p q = cc

@@ -41,7 +41,7 @@ use Rattle.dl_core.proofs.LawfulAlways.{lawful_always}
 use Rattle.dl_order.specs.Lengths.{steps_in_turn}
 use Rattle.dl_order.proofs.Histories.{StandsIn, legal_alike, legal_more, replay_more, returns_more, replay_push, legal_push, returns_push, history_stays}
 use Rattle.dl_order.proofs.Keeping.{touch_one}
-use Rattle.dl_order.proofs.Lists.{Each, In, Up, each_of, each_in, each_map, each_less, each_before, in_contains, contains_in, in_less, cut_at, up_less, up_before, up_others, up_pairs, up_same}
+use Rattle.dl_core.proofs.Elements.{Each, In, Up, each_of, each_in, each_map, each_less, each_before, in_contains, contains_in, in_less, cut_at, up_less, up_before, up_others, up_pairs, up_same}
 use Rattle.dl_order.proofs.Runs.{AllOlder, IsNone, turns_aside, past_all, InTurnIn, moves_long, turn_frame, turn_long, same_end, without}
 use Rattle.dl_order.proofs.Worlds.{IsWorldOf, IsOther, new_frame, same_frame, ordered}
 

@@ -30,16 +30,16 @@ abbrev pub history_in : Plan → Core → List Entry
 history_in plan core = in_rising (λ (entry : Entry). entry.ticket) (flat_map (entries_of core) (callers_of plan))
 
 -- the refusals of all callers, those of the first one first
-abbrev pub refusals_in : Plan → Core → List Refusal
-refusals_in plan core = flat_map (refusals_of core) (callers_of plan)
+abbrev pub all_refusals : Plan → Core → List Refusal
+all_refusals plan core = flat_map (refusals_of core) (callers_of plan)
 
 -- the calls begun were run: each stands once, in the history or among the refusals; each answer is that of the serial meaning; the pool
 -- is lawful; where serial runs end in forests no answer tells of a sealed object; each caller's refusals stand in order of index; the
 -- heap is that of the replay, and what is not free of the places is in it; and another run may start from it
-pub record IsRun (plan : Plan) (core : Core) (calls : Calls) : Type 0 where
-  pub covers : Covers calls (history_in plan core) (refusals_in plan core)
+pub record IsRunOver (plan : Plan) (core : Core) (calls : Calls) : Type 0 where
+  pub covers : Covers calls (history_in plan core) (all_refusals plan core)
   pub legal : IsLegal (source_of plan) calls plan.heap (history_in plan core)
-  pub pool : IsLawfulPool plan.places (source_of plan) calls plan.heap (history_in plan core) (refusals_in plan core)
+  pub pool : IsLawfulPool plan.places (source_of plan) calls plan.heap (history_in plan core) (all_refusals plan core)
   pub unsealed : IsForestClosed (source_of plan) plan.heap → All (λ (entry : Entry). IsUnsealed entry.answer) (history_in plan core)
   pub refusals : (caller : ℕ) → All (λ (refusal : Refusal). refusal.caller ≡ caller) (refusals_of core caller) × IsNonDecreasingBy (λ (refusal : Refusal). refusal.index) (refusals_of core caller)
   pub heap : plain core.world.heap ≡ replayed (source_of plan) calls plan.heap (history_in plan core)
@@ -48,7 +48,7 @@ pub record IsRun (plan : Plan) (core : Core) (calls : Calls) : Type 0 where
 
 -- every state to which a run comes, and in which no caller has a call in hand, is such
 abbrev pub RunsEnd : Type 0
-RunsEnd = (plan : Plan) (core : Core) (calls : Calls) → IsPlan plan → IsReached plan core calls → AreAllIdle core → IsRun plan core calls
+RunsEnd = (plan : Plan) (core : Core) (calls : Calls) → IsPlan plan → IsReached plan core calls → AreAllIdle core → IsRunOver plan core calls
 
 -- what passes kept, when each is idle, and heap and free places of such a state are what a run leaves by the serial meaning
 abbrev pub RunsClose : Type 0

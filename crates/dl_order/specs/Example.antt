@@ -17,7 +17,7 @@ use Rattle.dl_core.specs.Core.{Core, step, stepped}
 use Rattle.dl_core.specs.Reached.{Calls, IsReached, no_calls, with_begun}
 use Rattle.dl_core.specs.Reach.{WaitsFor, ticket_in}
 use Rattle.dl_core.specs.Laws.{HasJustEntered}
-use Rattle.dl_order.specs.Ends.{AreAllIdle, IsRun}
+use Rattle.dl_order.specs.Ends.{AreAllIdle, IsRunOver}
 use Rattle.dl_order.specs.Serial.{IsSerial}
 
 -- an operation with a root, which does nothing
@@ -63,4 +63,4 @@ pub record BothRun : Type 0 where
   pub core : Core
   pub reached : IsReached look_plan core look_calls
   pub idle : AreAllIdle core
-  pub run : IsRun look_plan core look_calls
+  pub run : IsRunOver look_plan core look_calls

@@ -35,7 +35,8 @@ pub record Rests (plan : Plan) (world end : Shared) : Type 0 where
 abbrev pub finished_entries : Shared → ℕ → List Entry
 finished_entries world caller = map (λ kept. entry_of caller (kept, record { reserved_at = 0; returned_at = 0 })) (frame_of world caller).finished
 
--- the finished operations of all callers, in rising tickets
+-- the finished operations of all callers, in rising tickets. The last number here is nobody's, and has finished nothing; with the
+-- versions of the pool this is `history_in`, once no operation runs
 abbrev pub history_of : Shared → List Entry
 history_of world = in_rising (λ (entry : Entry). entry.ticket) (flat_map (finished_entries world) (numbers_from 1 (length world.frames)))
 

@@ -2,7 +2,7 @@ use Rattle.std.proofs.Common.{rules, subst, sym, ap, ◌≡◌, ◌∷◌, [], S
 use mathlib.Core.Option.{none}
 use Rattle.atomic_table.specs.Table.{step, Allows, rest}
 use Rattle.dl_coarse.specs.Turn.{IsTurn, MayGive, gives}
-use Rattle.dl_coarse.specs.Sights.{settled}
+use Rattle.dl_coarse.specs.Sights.{sight_after}
 use Rattle.dl_coarse.proofs.Keeps.{given}
 use Rattle.dl_coarse.proofs.steps.give_at.Goals as goal
 use Rattle.dl_core.specs.Turns.{call_of}
@@ -16,7 +16,7 @@ store-requires g c =
       subst
           (λ sight. Allows (IsTurn g.M.Machine.plan g.M.Machine.core (g.M.Machine.plan c.args.table.now.key)) c.args.table.now.table_id.slots c.exchange.new.seat.id c.exchange.new.seat.me 0 (λ _. 0)
           (λ _. gives sight (step c.args.table.now.table_id.slots 0 0 0 none) c.exchange.new.seat.me 0))
-          (ap (λ sight. settled (g.M.Machine.core c.args.machine) (call_of c.args.op c.args.args.now) c.args.answer.now sight) same ∙ sym c.requires.named)
+          (ap (λ sight. sight_after (g.M.Machine.core c.args.machine) (call_of c.args.op c.args.args.now) c.args.answer.now sight) same ∙ sym c.requires.named)
           (given g.M.Machine.plan g.M.Machine.core (g.M.Machine.plan c.args.table.now.key) _ _ c.exchange.new.seat.me c.args.machine (call_of c.args.op c.args.args.now) c.args.answer.now
           (subst (λ sight. MayGive g.M.Machine.plan g.M.Machine.core (g.M.Machine.plan c.args.table.now.key) sight c.args.machine (call_of c.args.op c.args.args.now) c.args.answer.now) (sym same) c.requires.may)
           slot (search rules)),

@@ -40,4 +40,4 @@ returns-clause-ok g c =
     let room : length (own_of before).calls < size_of plan (own_of before).number = subst (λ (n : ℕ). length (own_of before).calls < size_of plan n) (sym c.requires.number.0) c.requires.room in
     let leaves = subst (λ (n : ℕ). Leaves (g.M.Machine.plan c.in_ok-machine.machine) (g.M.Machine.core c.in_ok-machine.machine) n call c.run-answer.result (g.M.Machine.core c.run-answer.new.self)) (sym c.requires.number.0) c.run-answer.ensures.leaves in
     progresses g.M.Machine.plan g.M.Machine.core plan before call c.requires.resting.0 c.in_ok-machine.machine got.0 room c.requires.fits c.run-answer.new.self c.run-answer.result c.run-answer.ensures.plan leaves
-    c.version-old.result c.grab.new.seat.me c.mark.new.seat.me c.give.new.seat.me.0 c.version-old.ensures (ap (λ me. me.0) got.1) c.mark.ensures.marked c.mark.ensures.look (ap (λ me. me.0) c.give.ensures.settled)
+    c.version-old.result c.grab.new.seat.me c.mark.new.seat.me c.give.new.seat.me.0 c.version-old.ensures (ap (λ me. me.0) got.1) c.mark.ensures.marked c.mark.ensures.look (ap (λ me. me.0) c.give.ensures.sight_after)

@@ -1,8 +1,8 @@
-use Rattle.std.proofs.Common.{◌<◌, ◌≤◌, ◌^◌, length, refl, ap, sym, subst, ◌∙◌, arith}
+use Rattle.std.proofs.Common.{◌≤◌, refl, ap, sym, subst, ◌∙◌, arith}
 use Rattle.std.specs.FinMap as finite
 use Rattle.dl_core.specs.Frames.{Frame}
 use Rattle.dl_core.specs.LocalSteps.{ready}
-use Rattle.dl_core.specs.Shown.{shown, with_code, AreTidy}
+use Rattle.dl_core.specs.Shown.{with_code, AreTidy}
 use Rattle.dl_core.proofs.Moves.{can_with}
 use Rattle.dl_core.proofs.calls.entered.Goals as goal
 

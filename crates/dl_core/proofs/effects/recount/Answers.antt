@@ -13,8 +13,8 @@ raise-requires c name booked is e =
     omega (arith, before.2, c.requires.few name before.0 before.1)
 
 pub returns-clause-can : goal.returns-clause-can
-returns-clause-can c code can =
+returns-clause-can c can =
     let with_book : Rows Booked → Rooms = λ b. rooms_of (record c.args.frame.now { book = b }) in
-    can_recounted code c.args.frame.now c.move_past.new.frame (record (shown c.args.frame.now) { hand = None; book = c.raise.new.book.rows }) c.target_held-lost.result c.target_in.result c.args.field
+    can_recounted c.args.code.now c.args.frame.now c.move_past.new.frame (record (shown c.args.frame.now) { hand = None; book = c.raise.new.book.rows }) c.target_held-lost.result c.target_in.result c.args.field
     (c.move_past.ensures.rooms ∙ ap with_book c.raise.ensures ∙ ap with_book c.lower.ensures) c.move_past.ensures.shown refl refl refl
     (ap (λ (b : Rows Booked). b.rows) c.raise.ensures ∙ ap (λ (b : Rows Booked). raised c.target_in.result b.rows) c.lower.ensures) can

@@ -19,9 +19,7 @@ use Rattle.dl_core.specs.Lawful.{one_if_entered, one_if_reserved}
 use Rattle.dl_core.specs.Sound.{Stands, idles, waits, works, HasHistory, in_hand_at}
 use Rattle.dl_core.specs.Laws.{IsKept}
 use Rattle.dl_core.proofs.FinishKeeps.{not_counted}
-use Rattle.dl_core.proofs.LawfulAlways.{lawful_always}
-use Rattle.dl_order.specs.Found.{NumbersAreSmall}
-use Rattle.dl_order.proofs.Lists.{Each, Up, all_each, pairs_up}
+use Rattle.dl_core.proofs.Elements.{Each, Up, all_each, pairs_up}
 
 -- ---- sums over lists
 
@@ -167,7 +165,7 @@ module _ (plan : Plan) (core : Core) (calls : Calls) (is : IsPlan plan) (kept : 
     ]
 
   -- a caller begins no more calls than its size
-  index_few : (caller : ℕ) → (frame_of core.world caller).index ≤ 65536
+  pub index_few : (caller : ℕ) → (frame_of core.world caller).index ≤ 65536
   index_few zero = let begun = (kept.sound.each 0).history.begun in omega (arith, begun)
   index_few (suc at) = elim (cases_lt at (length plan.sizes)) [
     | inl within ↦
@@ -183,14 +181,14 @@ module _ (plan : Plan) (core : Core) (calls : Calls) (is : IsPlan plan) (kept : 
   none_first : (frame_of core.world 0).index ≡ 0
   none_first = (kept.sound.each 0).history.begun
 
-  entered_few : core.clock ≤ greatest_ticket plan.heap + 4194304
+  pub entered_few : core.clock ≤ greatest_ticket plan.heap + 4194304
   entered_few =
       let f : Frame → ℕ = λ frame. length frame.finished + one_if_entered frame in
       let most = bounded_callers f (λ (frame : Frame). 0) idle idle 65536 core.world.frames core.world.frames refl
       (let first = entered_count 0 in omega (arith, first, none_first)) (λ at. let one = entered_count at in omega (arith, one, index_few at)) in
       omega (arith, kept.lawful.totals.clock, most, kept.sound.frames, is.few_callers)
 
-  version_few : core.pool.version ≤ 8388608
+  pub version_few : core.pool.version ≤ 8388608
   version_few =
       let most = bounded_callers (λ (frame : Frame). 2 * length frame.finished) one_if_reserved idle no_account 131072 core.world.frames core.pool.accounts (kept.sound.frames ∙ sym kept.sound.accounts)
       (let first = moves_count 0 in omega (arith, first, none_first)) (λ at. let one = moves_count at in omega (arith, one, index_few at)) in
@@ -200,18 +198,11 @@ module _ (plan : Plan) (core : Core) (calls : Calls) (is : IsPlan plan) (kept : 
       twice [] = refl
       twice (f ∷ frames) = omega (arith, twice frames, sum_by-cons (λ (frame : Frame). 2 * length frame.finished) f frames, sum_by-cons (λ (frame : Frame). length frame.finished) f frames)
 
-  spares_few : (caller : ℕ) → (frame_of core.world caller).spares ≤ plan.places
+  pub free_few : core.pool.free ≤ plan.places
+  free_few = omega (arith, kept.lawful.totals.places)
+
+  pub spares_few : (caller : ℕ) → (frame_of core.world caller).spares ≤ plan.places
   spares_few caller = elim (cases_lt caller (length core.world.frames)) [
     | inl lt ↦ let one = get_or-le-sum_by (λ (frame : Frame). frame.spares) core.world.frames caller idle lt in omega (arith, kept.lawful.totals.places, one)
     | inr past ↦ let none_there = ap (λ (f : Frame). f.spares) (get_or_past core.world.frames caller idle past) in omega (arith, none_there)
   ]
-
-pub numbers_are_small : NumbersAreSmall
-numbers_are_small plan core calls is reached =
-    let kept = lawful_always plan core calls is reached in
-    record {
-      clock = entered_few plan core calls is kept;
-      version = version_few plan core calls is kept;
-      free = omega (arith, kept.lawful.totals.places);
-      spares = spares_few plan core calls is kept;
-    }

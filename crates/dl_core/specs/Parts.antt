@@ -1,0 +1,81 @@
+-- The parts of the state that the program keeps, and the state that they are.
+use Rattle.std.specs.Prelude.{◌≡◌, ◌+◌, ◌<◌, ◌≤◌, ◌^◌, ℕ, List, length, nat_lt, if◌then◌else◌, map}
+use Rattle.std.specs.FinMap as finite
+use Rattle.dl_ir.specs.declared.calls.Call.{Call}
+use Rattle.dl_ir.specs.Rows.{Rows}
+use Rattle.dl_instr.specs.declared.code.Code.{Code}
+use Rattle.dl_core.specs.declared.counters.Counters.{Counters}
+use Rattle.dl_core.specs.declared.dues.Due.{Due}
+use Rattle.dl_core.specs.declared.dues.Due.TheVariants.{Reserves, Enters, Finishes}
+use Rattle.dl_core.specs.declared.frames.Frame.{Frame as Kept}
+use Rattle.dl_core.specs.declared.objects.Object.{Object}
+use Rattle.dl_core.specs.Accounts.{shown_account}
+use Rattle.dl_core.specs.Arguments.{HoldsCall}
+use Rattle.dl_core.specs.Core.{Account, Core}
+use Rattle.dl_core.specs.Frames.{Frame, at_rest}
+use Rattle.dl_core.specs.Heaps.{Heap}
+use Rattle.dl_core.specs.Needs.{CanTouch}
+use Rattle.dl_core.specs.LocalSteps.{due, IsReady}
+use Rattle.dl_core.specs.Plans.{Plan}
+use Rattle.dl_core.specs.Shown.{shown, CanGoOn}
+
+-- the state that has these parts
+abbrev pub core_by : Heap → List Frame → List Account → Counters → Core
+core_by heap frames accounts counters = record {
+  world = record { heap = heap; frames = frames };
+  clock = counters.clock;
+  pool = record { version = counters.version; free = counters.free; accounts = accounts };
+}
+
+-- the state that the program keeps
+abbrev pub core_of : Rows Object → List Kept → Counters → Core
+core_of heap frames counters = core_by heap.rows (map shown frames) (map shown_account frames) counters
+
+-- the numbers after so many places were returned by one move, if there are any
+abbrev pub given_back : ℕ → Counters → Counters
+given_back count counters = record { clock = counters.clock; version = if nat_lt 0 count then counters.version + 1 else counters.version; free = counters.free + count }
+
+-- another move of the pool can be counted
+abbrev pub CanMove : Counters → Type 0
+CanMove counters = counters.version + 1 < 2 ^ 64
+
+-- what a reservation or its refusal needs
+pub record CanAsk (kept : Kept) (counters : Counters) : Type 0 where
+  pub book : kept.book.rows ≡ finite.empty
+  pub room : length kept.refusals.items < kept.refusals.room
+  pub move : CanMove counters
+
+-- what an entry needs
+pub record CanEnter (code : Code) (kept : Kept) (counters : Counters) : Type 0 where
+  pub held : HoldsCall code (shown kept).call
+  pub room : 32 ≤ kept.locals.room
+  pub ticket : counters.clock + 1 < 2 ^ 64
+
+-- what a finish needs
+pub record CanFinish (kept : Kept) (counters : Counters) : Type 0 where
+  pub book : kept.book.rows ≡ finite.empty
+  pub room : length kept.entries.items < kept.entries.room
+  pub move : CanMove counters
+  pub free : counters.free + kept.spares < 2 ^ 32
+
+-- what an event needs
+abbrev pub CanStep : Code → Kept → Rows Object → Counters → Due → Type 0
+CanStep code kept heap counters (Reserves need) = CanAsk kept counters
+CanStep code kept heap counters Enters = CanEnter code kept counters
+CanStep code kept heap counters (Finishes end) = CanFinish kept counters
+CanStep code kept heap counters due = CanTouch code kept heap due
+
+-- what giving a caller a step needs
+pub record CanAdvance (code : Code) (kept : Kept) (heap : Rows Object) (counters : Counters) : Type 0 where
+  pub can : CanGoOn code kept
+  pub ready : (plan : Plan) → plan.code ≡ code → IsReady plan (shown kept)
+  pub needs : (plan : Plan) → plan.code ≡ code → CanStep code kept heap counters (due plan (shown kept))
+
+-- what the begin of a call needs
+pub record CanBegin (code : Code) (kept : Kept) (call : Call) : Type 0 where
+  pub idle : shown kept ≡ at_rest kept.index (shown kept).finished
+  pub can : CanGoOn code kept
+  pub held : HoldsCall code call
+  pub index : kept.index + 1 < 2 ^ 32
+  pub args : length call.args ≤ kept.args.room
+  pub roots : length call.args ≤ kept.roots.room
