@@ -1,6 +1,6 @@
 -- What declarations are by the rules is what the functions give.
-use Rattle.std.proofs.Common.{◌≡◌, ℕ, zero, suc, ◌+◌, ◌<◌, Bool, true, false, List, [], ◌∷◌, ◌++◌, length, refl, sym, ap, subst, ◌∙◌, Option, Some, None, Result, Ok, Err, arith, ◌⊎◌, inl, inr, slice_get, MatchOption, if◌then◌else◌}
-use Rattle.std.specs.Prelude.{codes, sum_by, not, is_some}
+use Rattle.std.proofs.Common.{◌≡◌, ℕ, zero, suc, ◌+◌, ◌<◌, Bool, true, false, List, [], ◌∷◌, ◌++◌, length, refl, sym, ap, subst, ◌∙◌, Option, Some, None, Result, Ok, Err, arith, inl, inr, slice_get, MatchOption, if◌then◌else◌}
+use Rattle.std.specs.Prelude.{codes, sum_by, is_some}
 use Rattle.std.specs.Str.{bytes_eq}
 use Rattle.std.proofs.lemmas.Bool.{cases_order, false≢true}
 use Rattle.std.proofs.lemmas.Slice.Eq.{bytes_eq-Decides}
@@ -13,12 +13,12 @@ use Rattle.dl_grammar.specs.declared.tree.Word.{Word}
 use Rattle.dl_grammar.specs.declared.tree.TreeField.{TreeField}
 use Rattle.dl_grammar.specs.declared.tree.TreeKind.{TreeKind}
 use Rattle.dl_types.specs.declared.fault.TypeFault.{TypeFault}
-use Rattle.dl_types.specs.declared.fault.TypeFault.TheVariants.{Twice, Unknown, KindClash, RootInField}
+use Rattle.dl_types.specs.declared.fault.TypeFault.TheVariants.{Twice}
 use Rattle.dl_types.specs.declared.declarations.Place.{Place}
 use Rattle.dl_types.specs.declared.declarations.Place.TheVariants.{InField, InParam, InVar}
-use Rattle.dl_types.specs.Checks.{◌>>=◌, or_fault, each}
+use Rattle.dl_types.specs.Checks.{◌>>=◌, each}
 use Rattle.dl_types.specs.Names.{first_named, field_named, local_named, local_of, kind_named, tree_kind_named, or_else}
-use Rattle.dl_types.specs.Declarations.{takes, sort_fault, kind_type, type_of, field_typed, kind_typed, param_typed, var_typed}
+use Rattle.dl_types.specs.Declarations.{takes, sort_fault, kind_type, type_of, field_typed, kind_typed}
 use Rattle.dl_types.specs.DeclarationRules.{IsNamed, IsUnnamed, EachIs, field_name, local_name, kind_name, tree_kind_name, is_root_of_tree, is_root_of, NamesKind, IsType, IsField, IsKind, IsLocal}
 
 same_bytes : (a b : List ℕ) → bytes_eq a b ≡ true → a ≡ b

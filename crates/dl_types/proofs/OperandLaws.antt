@@ -1,5 +1,5 @@
 -- What expressions, places and right sides are by the rules is what the functions give.
-use Rattle.std.proofs.Common.{◌≡◌, ℕ, ◌+◌, Bool, true, false, List, [], ◌∷◌, ◌++◌, refl, sym, ap, subst, ◌∙◌, Option, Some, None, Result, Ok, Err, arith, slice_get, MatchOption}
+use Rattle.std.proofs.Common.{◌≡◌, ℕ, Bool, List, ◌++◌, refl, sym, ap, subst, ◌∙◌, Option, Some, None, Result, Ok, Err, arith, slice_get, MatchOption}
 use Rattle.dl_ir.specs.declared.expressions.Expr.{Expr}
 use Rattle.dl_ir.specs.declared.expressions.Expr.TheVariants as expr
 use Rattle.dl_ir.specs.declared.expressions.Op.{Op}
@@ -21,7 +21,7 @@ use Rattle.dl_types.specs.declared.fault.TypeFault.TheVariants.{Unknown}
 use Rattle.dl_types.specs.declared.operands.Given.{Given}
 use Rattle.dl_types.specs.declared.operands.Given.TheVariants as given
 use Rattle.dl_types.specs.Checks.{◌>>=◌, or_fault}
-use Rattle.dl_types.specs.Names.{first_named, local_of, local_named, field_named, kind_named, fields_in, fields_of}
+use Rattle.dl_types.specs.Names.{local_of, local_named, field_named, kind_named, fields_in}
 use Rattle.dl_types.specs.Statements.{local_typed, number_local, both, negated, Numbers, number_step, number_typed, local_given, number_given, sum_in, sum_given, side_given, field_given, place_given, rhs_given}
 use Rattle.dl_types.specs.DeclarationRules.{IsNamed, IsUnnamed, field_name, local_name, kind_name, is_root_of}
 use Rattle.dl_types.specs.StatementRules.{IsNumber, IsSum, IsSide, HasNoField, IsPlace, IsRight}

@@ -1,5 +1,5 @@
 -- What simple statements and conditions are by the rules is what the functions give.
-use Rattle.std.proofs.Common.{◌≡◌, ◌==◌, ℕ, Bool, true, false, ◌&&◌, not, List, [], ◌∷◌, ◌++◌, refl, sym, ap, subst, ◌∙◌, Option, Some, None, Result, Ok, Err, slice_get, MatchOption, if◌then◌else◌}
+use Rattle.std.proofs.Common.{◌≡◌, ◌==◌, ℕ, Bool, true, false, ◌&&◌, not, List, ◌++◌, refl, sym, ap, subst, ◌∙◌, Option, Some, None, Result, Ok, Err, slice_get, MatchOption, if◌then◌else◌}
 use Rattle.std.proofs.lemmas.Bool.{eqb-true, eq-eqb, false≢true}
 use Rattle.dl_ir.specs.declared.expressions.Cond.{Cond}
 use Rattle.dl_ir.specs.declared.expressions.Cond.TheVariants as cond
@@ -23,8 +23,8 @@ use Rattle.dl_types.specs.declared.fault.TypeFault.TheVariants.{Unknown, KindCla
 use Rattle.dl_types.specs.declared.operands.Given.{Given}
 use Rattle.dl_types.specs.declared.operands.Given.TheVariants as given
 use Rattle.dl_types.specs.Checks.{◌>>=◌, or_fault}
-use Rattle.dl_types.specs.Names.{local_of, is_root_in, is_root_kind}
-use Rattle.dl_types.specs.Statements.{Numbers, number_typed, local_typed, side_given, place_given, rhs_given, is_null, is_new_root, refers_to_root, field_assigned, number_assigned, is_of_kind, null_assigned, assigned, assign_checked, assign_typed, stored_as, stored, store_typed, sameness, refs_compared, refs_related, compared, cond_typed}
+use Rattle.dl_types.specs.Names.{local_of, is_root_in}
+use Rattle.dl_types.specs.Statements.{Numbers, number_typed, side_given, place_given, rhs_given, is_null, is_new_root, refers_to_root, assigned, assign_checked, assign_typed, stored_as, stored, store_typed, sameness, refs_compared, refs_related, compared, cond_typed}
 use Rattle.dl_types.specs.DeclarationRules.{IsNamed, IsUnnamed, local_name}
 use Rattle.dl_types.specs.StatementRules.{IsNumber, IsSide, IsPlace, IsRight, Assigns, Stores, IsSameness, Compares, RefersToRoot, IsNewRoot, HasParts, IsAssign, IsStore, IsCond, IsValue}
 use Rattle.dl_types.proofs.Checking.{where_some}

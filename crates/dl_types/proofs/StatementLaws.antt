@@ -1,5 +1,5 @@
 -- What statements and blocks are by the rules is what the functions give.
-use Rattle.std.proofs.Common.{◌≡◌, ℕ, List, [], ◌∷◌, ◌++◌, map, refl, sym, ap, subst, ◌∙◌, Option, Some, None, Result, Ok, Err}
+use Rattle.std.proofs.Common.{◌≡◌, ℕ, List, [], ◌∷◌, ◌++◌, map, refl, sym, ap, subst, ◌∙◌, Some, None, Result, Ok, Err}
 use Rattle.dl_ir.specs.declared.expressions.Cond.{Cond}
 use Rattle.dl_ir.specs.declared.expressions.Expr.{Expr}
 use Rattle.dl_ir.specs.declared.modules.KindDecl.{KindDecl}
@@ -8,7 +8,7 @@ use Rattle.dl_ir.specs.declared.statements.Stmt.{Stmt}
 use Rattle.dl_ir.specs.declared.statements.Stmt.TheVariants as stmt
 use Rattle.dl_grammar.specs.declared.tree.TreeCond.{TreeCond}
 use Rattle.dl_grammar.specs.declared.tree.TreeExpr.{TreeExpr}
-use Rattle.dl_grammar.specs.declared.tree.TreeStmt.{TreeStmt, TreeStmt-F, roll-TreeStmt, out-TreeStmt, out-roll-TreeStmt, ind-TreeStmt}
+use Rattle.dl_grammar.specs.declared.tree.TreeStmt.{TreeStmt, TreeStmt-F, roll-TreeStmt, out-roll-TreeStmt, ind-TreeStmt}
 use Rattle.dl_grammar.specs.declared.tree.What.{What, What-F, roll-What, out-What}
 use Rattle.dl_grammar.specs.declared.tree.What.TheFolds.{fold-What, fold-roll-What, fold-roll-TreeStmt, fold_out-What, fold_out-TreeStmt, map-What, map-TreeStmt}
 use Rattle.dl_grammar.specs.declared.tree.What.TheVariants as what
@@ -16,7 +16,7 @@ use Rattle.dl_types.specs.declared.fault.TypeFault.{TypeFault}
 use Rattle.dl_types.specs.declared.fault.TypeFault.TheVariants.{KindClash}
 use Rattle.dl_types.specs.Checks.{◌>>=◌, or_fault, each}
 use Rattle.dl_types.specs.Statements.{Numbers, number_typed, assign_typed, store_typed, cond_typed, return_typed, emit_typed, Typed, in_turn, what_step, stmt_typed, block_typed}
-use Rattle.dl_types.specs.StatementRules.{IsAssign, IsStore, IsCond, IsValue, IsWhat, IsBlock}
+use Rattle.dl_types.specs.StatementRules.{IsCond, IsValue, IsWhat, IsBlock}
 use Rattle.dl_types.proofs.SimpleLaws.{assign_is, is_assign, store_is, is_store, cond_is, is_cond, value_typed, value_is, is_value}
 
 -- ---- statements one behind another

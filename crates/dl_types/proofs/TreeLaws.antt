@@ -19,9 +19,9 @@ use Rattle.dl_types.specs.declared.declarations.Place.TheVariants.{InParam, InVa
 use Rattle.dl_types.specs.declared.fault.TypeFault.{TypeFault}
 use Rattle.dl_types.specs.declared.fault.TypeFault.TheVariants.{Twice, KindClash, NoRoots, Memory}
 use Rattle.dl_types.specs.Checks.{◌>>=◌, each, Gives}
-use Rattle.dl_types.specs.Names.{first_named, has_op, local_of, local_named}
+use Rattle.dl_types.specs.Names.{first_named, has_op, local_named}
 use Rattle.dl_types.specs.Declarations.{kind_typed, param_typed, var_typed}
-use Rattle.dl_types.specs.DeclarationRules.{IsNamed, IsUnnamed, EachIs, IsKind, IsLocal}
+use Rattle.dl_types.specs.DeclarationRules.{IsUnnamed, EachIs, IsKind, IsLocal}
 use Rattle.dl_types.specs.Rules.{op_name, HasRootParam, HasParams, AreVars, IsOp, HasRootKind, IsTree, Types, IsTypeFault}
 use Rattle.dl_types.specs.StatementRules.{IsBlock}
 use Rattle.dl_types.specs.Statements.{block_typed}

@@ -1,5 +1,5 @@
 -- What declarations are, by rules: one for each form and one for each fault.
-use Rattle.std.specs.Prelude.{◌≡◌, ℕ, ◌+◌, ◌<◌, ◌⊎◌, Bool, true, false, if◌then◌else◌, List, [], ◌∷◌, ◌++◌, slice_get, sum_by, codes, Some, Result, Ok, Err}
+use Rattle.std.specs.Prelude.{◌≡◌, ℕ, ◌<◌, ◌⊎◌, Bool, true, false, List, [], ◌∷◌, ◌++◌, slice_get, sum_by, codes, Some, Result, Ok, Err}
 use Rattle.dl_ir.specs.declared.modules.Ty.{Ty}
 use Rattle.dl_ir.specs.declared.modules.Ty.TheVariants.{Int, Of}
 use Rattle.dl_ir.specs.declared.modules.FieldDecl.{FieldDecl}
