@@ -7,6 +7,14 @@ use Rattle.dl_io.specs.declared.memory_files.MemFiles.{MemFiles}
 use Rattle.dl_io.specs.Files.{bytes_in, left_of}
 use Rattle.dl_io.specs.declared.memory_sink.MemSink.{MemSink}
 
+-- the number of the next call; it stands still at its type's end
+abbrev pub next_call : ℕ → ℕ
+next_call calls = raised calls 1
+
+-- the call of this number is one of those that fail
+abbrev pub IsNamed : List ℕ → ℕ → Type 0
+IsNamed fails call = Contains fails call
+
 -- whether no call was named to fail
 abbrev pub is_reliable : List ℕ → Bool
 is_reliable [] = true
@@ -25,14 +33,6 @@ pub record Plan : Type 0 where
 -- the plan of files in memory, with the calls made so far
 abbrev pub plan_of : MemFiles → Plan
 plan_of files = record { piece = files.piece; fails = files.fails.items; calls = files.calls }
-
--- one call more was made; the count stands still at its type's end
-abbrev pub counted : Plan → Plan
-counted plan = record plan { calls = raised plan.calls 1 }
-
--- the call made last is one of those that fail
-abbrev pub IsNamed : Plan → Type 0
-IsNamed plan = Contains plan.fails plan.calls
 
 -- what files in memory tell
 abbrev pub source_of : MemFiles → Source
@@ -82,11 +82,3 @@ pub record Script : Type 0 where
 -- the script of a sink in memory, with the calls made so far
 abbrev pub script_of : MemSink → Script
 script_of sink = record { piece = sink.piece; fails = sink.fails.items; calls = sink.calls; room = sink.room }
-
--- one call more was made; the count stands still at its type's end
-abbrev pub called : Script → Script
-called script = record script { calls = raised script.calls 1 }
-
--- the call made last is one of those that fail
-abbrev pub IsRefused : Script → Type 0
-IsRefused script = Contains script.fails script.calls

@@ -24,7 +24,7 @@ pub struct MemFiles {
 }
 
 impl MemFiles {
-    ghost use Rattle.dl_io.specs.Memory.{source_of, no_files, plan_of, counted, IsNamed, is_reliable, Adds};
+    ghost use Rattle.dl_io.specs.Memory.{source_of, no_files, plan_of, next_call, IsNamed, is_reliable, Adds};
 
     /// No file at first. A read gives at most `piece` bytes, and `fails` has the numbers of the
     /// calls that fail, attach and read counted together from 1.
@@ -69,9 +69,9 @@ impl MemFiles {
 
     // Counts a call, and says whether it is one of those that fail.
     fn fails_now(&mut self) -> bool
-        ensures fails { (result ≡ true) ↔ IsNamed (plan_of self.new) }
+        ensures fails { (result ≡ true) ↔ IsNamed (plan_of self.old).fails (plan_of self.new).calls }
         ensures reliable { is_reliable self.old.fails.items ≡ true → result ≡ false }
-        ensures plan { plan_of self.new ≡ counted (plan_of self.old) }
+        ensures plan { plan_of self.new ≡ record (plan_of self.old) { calls = next_call (plan_of self.old).calls } }
         ensures same { self.new ≡ record self.old { calls = self.new.calls } }
     {
         self.calls = self.calls.saturating_add(1);
@@ -80,14 +80,14 @@ impl MemFiles {
 }
 
 impl Files for MemFiles {
-    ghost use Rattle.dl_io.specs.Memory.{source_of, plan_of, counted, IsNamed};
+    ghost use Rattle.dl_io.specs.Memory.{source_of, plan_of, next_call, IsNamed};
 
     ghost source = { source_of };
 
     /// As for all files; and it fails exactly at a call that is named, and at an unknown path.
     fn attach(&mut self, file: u32, path: &str) -> Result<(), Failed>
-        ensures plan { plan_of self.new ≡ counted (plan_of self.old) }
-        ensures fails { IsErr result ↔ (IsNamed (plan_of self.new) ⊎ ((source_of self.old).bytes_at path.now ≡ None)) }
+        ensures plan { plan_of self.new ≡ record (plan_of self.old) { calls = next_call (plan_of self.old).calls } }
+        ensures fails { IsErr result ↔ (IsNamed (plan_of self.old).fails (plan_of self.new).calls ⊎ ((source_of self.old).bytes_at path.now ≡ None)) }
 
         ensures same { SameFiles (source_of self.old) (source_of self.new) }
         ensures none_given { (source_of self.new).given ≡ 0 }
@@ -113,9 +113,9 @@ impl Files for MemFiles {
     fn read(&mut self, file: u32, into: &mut [u8]) -> Result<usize, Failed>
         requires attached { (source_of self.old).attached ≡ Some file }
         requires room { 0 < length into.old }
-        ensures plan { plan_of self.new ≡ counted (plan_of self.old) }
+        ensures plan { plan_of self.new ≡ record (plan_of self.old) { calls = next_call (plan_of self.old).calls } }
         ensures piece { IfOk result (λ n. n ≤ (plan_of self.old).piece) }
-        ensures fails { IsErr result ↔ (IsNamed (plan_of self.new) ⊎ ((source_of self.old).left ≡ None)) }
+        ensures fails { IsErr result ↔ (IsNamed (plan_of self.old).fails (plan_of self.new).calls ⊎ ((source_of self.old).left ≡ None)) }
 
         ensures same { SameFiles (source_of self.old) (source_of self.new) }
         ensures same_attached { ((source_of self.new).attached ≡ (source_of self.old).attached) × ((source_of self.new).is_sound ≡ (source_of self.old).is_sound) }

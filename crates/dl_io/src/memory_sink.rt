@@ -19,7 +19,7 @@ pub struct MemSink {
 }
 
 impl MemSink {
-    ghost use Rattle.dl_io.specs.Memory.{taken_of, script_of, IsRefused};
+    ghost use Rattle.dl_io.specs.Memory.{taken_of, script_of, IsNamed};
 
     /// A sink with room for so many bytes, of which a call takes at most `piece`. `fails` has the
     /// numbers, counted from 1, of the calls that fail.
@@ -49,7 +49,7 @@ impl MemSink {
     fn next_count(&self, len: usize) -> usize
         ensures fits { result ≤ len }
         ensures small { result ≤ self.now.piece }
-        ensures named { IsRefused (script_of self.now) → result ≡ 0 }
+        ensures named { IsNamed self.now.fails.items self.now.calls → result ≡ 0 }
         ensures full { self.now.room ≤ length self.now.bytes.items → result ≡ 0 }
     {
         if self.fails.contains(&self.calls) {
@@ -61,16 +61,16 @@ impl MemSink {
 }
 
 impl Sink for MemSink {
-    ghost use Rattle.dl_io.specs.Memory.{taken_of, script_of, called, IsRefused};
+    ghost use Rattle.dl_io.specs.Memory.{taken_of, script_of, next_call, IsNamed};
 
     ghost taken = { taken_of };
 
     /// As for all sinks; and it takes at most `piece` bytes, and fails at a call that is named and on a full room.
     fn write(&mut self, bytes: &[u8]) -> Result<usize, Failed>
         requires { 0 < length bytes.now }
-        ensures script { script_of self.new ≡ called (script_of self.old) }
+        ensures script { script_of self.new ≡ record (script_of self.old) { calls = next_call (script_of self.old).calls } }
         ensures piece { IfOk result (λ n. n ≤ (script_of self.old).piece) }
-        ensures named { IsRefused (script_of self.new) → IsErr result }
+        ensures named { IsNamed (script_of self.old).fails (script_of self.new).calls → IsErr result }
         ensures full { IfSome (taken_of self.old).written (λ written. (script_of self.old).room ≤ length written → IsErr result) }
 
         ensures takes { IfOk result (λ n. (0 < n) × (n ≤ length bytes.now) × Took (taken_of self.old).written (taken_of self.new).written (take n bytes.now)) }

@@ -6,7 +6,6 @@ use Rattle.std.specs.Ordering.{eq_by_cmp, is_eq}
 use Rattle.std.specs.FinMap as map
 use Rattle.std.specs.FinMap.{FinMap, len-remove, len-empty, get-empty}
 use Rattle.std.proofs.lemmas.Bool.{eqb-true}
-use Rattle.std.proofs.lemmas.Bool.Decides.{nat_tests}
 use Rattle.std.proofs.lemmas.List.Sums.{sum_by-append, count_by-le-length}
 use Rattle.std.proofs.lemmas.List.{take_more}
 use Rattle.std.proofs.lemmas.Cmp.{tied_itself}
@@ -18,7 +17,7 @@ use Rattle.dl_ir.specs.declared.census.Census.{Census}
 use Rattle.dl_ir.specs.Heap.{Objects, name_cmp}
 use Rattle.dl_ir.specs.References.{name_eq, refers_to, target_in}
 use Rattle.dl_ir.specs.Census.{open_at, is_none, is_many, IsFiledAt, IsFiled, IsFiledBut, marked, Changes, AreThere}
-use Rattle.dl_ir.proofs.NameOrder.{names_total}
+use Rattle.dl_ir.proofs.NameOrder.{names_total, name_eq_itself}
 use Rattle.dl_ir.proofs.Lookups.{same_or_not, got_put, got_beside, gone, got_left, has_marked, has_beside}
 use Rattle.dl_ir.proofs.Subsets.{room_for}
 
@@ -130,10 +129,6 @@ filed_left c k is =
       rooms = record { within = omega (arith, fewer c.objects.rows k, is.rooms.within); counts = is.rooms.counts; loose = is.rooms.loose; shared = is.rooms.shared };
     }
 
--- a name is itself, and no other
-pub itself : (n : Name) → name_eq n n ≡ true
-itself n = grind (arith, nat_tests)
-
 and_parts : (a b : Bool) → (a && b) ≡ true → (a ≡ true) × (b ≡ true)
 and_parts true b is = (refl, is)
 and_parts false b is = cc
@@ -161,7 +156,7 @@ module _ (by : ℕ → ℕ → ℕ) (by_none : (c : ℕ) → by c 0 ≡ c) where
   change_one before t count is n = elim (same_or_not n t) [
     | inl same ↦ subst (λ m. map.get (map.insert before t (by count 1)) m ≡ option_map (λ (c : ℕ). by c (count_by (refers_to m) (Ref (Some t) ∷ []))) (map.get before m)) (sym same) (
         got_put before t (by count 1)
-        ∙ ap (λ b. Some (by count (0 + cond b 1 0))) (sym (itself t))
+        ∙ ap (λ b. Some (by count (0 + cond b 1 0))) (sym (name_eq_itself t))
         ∙ ap (option_map (λ (c : ℕ). by c (count_by (refers_to t) (Ref (Some t) ∷ [])))) (sym is))
     | inr other ↦ got_beside before t (by count 1) n other ∙ same_count n (Ref (Some t)) (map.get before n) (differ n t other)
   ]

@@ -1,5 +1,6 @@
 -- The order of names.
-use Rattle.std.proofs.Common.{◌≡◌, ℕ, ap, ◌∙◌}
+use Rattle.std.proofs.Common.{◌≡◌, ℕ, true, arith, ap, ◌∙◌}
+use Rattle.std.proofs.lemmas.Bool.Decides.{nat_tests}
 use Rattle.std.specs.Cmp.{IsTotalOrder}
 use Rattle.std.specs.Ordering.{nat_cmp, ordering_reverse}
 use Rattle.std.specs.declared.cmp.Ordering.TheVariants.{Less, Equal, Greater}
@@ -8,6 +9,7 @@ use Rattle.std.proofs.lemmas.Cmp.{nat_cmp_total, on_total, then_total}
 use Rattle.std.proofs.lemmas.Map.Lookups.{exact_pairs, exact_unsigned}
 use Rattle.dl_ir.specs.declared.names.Name.{Name}
 use Rattle.dl_ir.specs.Heap.{name_cmp}
+use Rattle.dl_ir.specs.References.{name_eq}
 
 -- the order is total
 pub names_total : IsTotalOrder name_cmp
@@ -26,3 +28,7 @@ greater_turned a b h = names_total.antisymm b a ∙ ap ordering_reverse h
 
 pub equal_turned : (a b : Name) → name_cmp a b ≡ Equal → name_cmp b a ≡ Equal
 equal_turned a b h = names_total.antisymm b a ∙ ap ordering_reverse h
+
+-- a name is itself
+pub name_eq_itself : (n : Name) → name_eq n n ≡ true
+name_eq_itself n = grind (arith, nat_tests)

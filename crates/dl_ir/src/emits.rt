@@ -46,10 +46,9 @@ impl Emits {
         requires { length self.old < 16 }
         ensures { self.new ≡ self.old ++ number ∷ [] }
     {
-        if self.len < 16 {
-            self.cells[self.len] = number;
-            self.len += 1;
-        }
+        let at = self.len;
+        self.cells[at] = number;
+        self.len = at + 1;
     }
 
     /// Whether there are 16, and so none may be added.

@@ -56,10 +56,9 @@ impl Fields {
         requires { length self.old < 16 }
         ensures { self.new ≡ self.old ++ value ∷ [] }
     {
-        if self.len < 16 {
-            self.cells[self.len] = value;
-            self.len += 1;
-        }
+        let at = self.len;
+        self.cells[at] = value;
+        self.len = at + 1;
     }
 
     /// The value of the field with this number, if there is one.

@@ -1,12 +1,10 @@
 -- A heap of the module stays one where it is settled.
-use Rattle.std.proofs.Common.{◌≡◌, ℕ, suc, zero, ◌<◌, Bool, true, false, cond, ◌&&◌, ◌||◌, List, [], ◌∷◌, map, refl, sym, ap, subst, ◌∙◌, Option, Some, None, T, arith, slice_get, option_map}
+use Rattle.std.proofs.Common.{◌≡◌, ℕ, suc, zero, ◌<◌, Bool, true, false, cond, ◌&&◌, ◌||◌, List, [], ◌∷◌, refl, sym, ap, subst, ◌∙◌, Option, Some, None, arith, slice_get, option_map}
 use Rattle.std.specs.Prelude.{count_by, nat_lt, nat_le, if◌then◌else◌}
 use Rattle.std.specs.Cmp.{Equal-is}
-use Rattle.std.specs.Ordering.{is_lt, eq_by_cmp}
+use Rattle.std.specs.Ordering.{eq_by_cmp}
 use Rattle.std.specs.FinMap as finite
-use Rattle.std.specs.FinMap.{is_sorted, get-remove, get-entries, get-from_sorted, entries_sorted}
-use Rattle.std.specs.FinMap.Entries.{below_all}
-use Rattle.std.proofs.lemmas.Bool.Decides.{nat_tests}
+use Rattle.std.specs.FinMap.{get-remove}
 use Rattle.std.proofs.lemmas.List.Sums.{sum_by-cons}
 use Rattle.dl_ir.specs.declared.modules.Module.{Module}
 use Rattle.dl_ir.specs.declared.modules.Ty.{Ty}
@@ -16,18 +14,16 @@ use Rattle.dl_ir.specs.declared.names.Value.{Value}
 use Rattle.dl_ir.specs.declared.names.Value.TheVariants as values
 use Rattle.dl_ir.specs.declared.objects.Obj.{Obj}
 use Rattle.dl_ir.specs.Heap.{Objects, name_cmp, HasType, HasFields, IsHeapOf, IsNodeKind, IsRootOf}
-use Rattle.dl_shape.specs.References.{name_eq, refers_to, refs}
-use Rattle.dl_shape.specs.Settling.{is_shared, IsLoose, Trims, done, drop, trim, sealed_entry, sealed_heap, settled}
-use Rattle.dl_ir.proofs.Members.{Held, in_entries, term_le}
-use Rattle.dl_ir.proofs.NameOrder.{names_total, exact_names}
+use Rattle.dl_shape.specs.References.{refers_to, refs}
+use Rattle.dl_shape.specs.Settling.{is_shared, IsLoose, Trims, done, drop, trim, sealed_heap, settled}
+use Rattle.dl_ir.proofs.Members.{in_entries, term_le}
+use Rattle.dl_ir.proofs.NameOrder.{names_total, exact_names, name_eq_itself}
 use Rattle.dl_shape.proofs.Order.{order_does_not_matter}
+use Rattle.dl_shape.proofs.Sealing.{sealed_at, got_sealed}
 use Rattle.dl_meaning.specs.FirstStates.{HasTicketsBelow}
 use Rattle.dl_meaning.proofs.Heaps.{Stays, fields_stay}
 
 -- ---- what refers to an object
-name_eq_itself : (n : Name) → name_eq n n ≡ true
-name_eq_itself n = grind (arith, nat_tests)
-
 abbrev one_if : Bool → ℕ
 one_if b = cond b 1 0
 
@@ -101,48 +97,22 @@ trimmed_below ticket (done none) below = below
 trimmed_below ticket (drop {heap = h} n loose rest) below = trimmed_below ticket rest (λ q p is. below q p (was h n q p is))
 
 -- ---- objects are sealed
--- the object of a name, sealed where it is shared
-abbrev mark : Objects → Name → Obj → Obj
-mark h q o = (sealed_entry h (q, o)).1
-
-below_kept : (h : Objects) (x : Name) (es : Held) → below_all name_cmp x (map (sealed_entry h) es) ≡ below_all name_cmp x es
-below_kept h x [] = refl
-below_kept h x (e ∷ es) = ap (λ b. is_lt (name_cmp x e.0) && b) (below_kept h x es)
-
-sorted_kept : (h : Objects) (es : Held) → is_sorted name_cmp (map (sealed_entry h) es) ≡ is_sorted name_cmp es
-sorted_kept h [] = refl
-sorted_kept h (e ∷ es) = ap (λ b. b && is_sorted name_cmp (map (sealed_entry h) es)) (below_kept h e.0 es) ∙ ap (λ b. below_all name_cmp e.0 es && b) (sorted_kept h es)
-
-find_marked : (h : Objects) (q : Name) (es : Held) → finite.find name_cmp q (map (sealed_entry h) es) ≡ option_map (mark h q) (finite.find name_cmp q es)
-find_marked h q [] = refl
-find_marked h q (e ∷ es) = elim (eq_by_cmp name_cmp q e.0) as (λ b. eq_by_cmp name_cmp q e.0 ≡ b
-    → cond b (Some (mark h e.0 e.1)) (finite.find name_cmp q (map (sealed_entry h) es)) ≡ option_map (mark h q) (cond b (Some e.1) (finite.find name_cmp q es))) [
-      | true ↦ λ t. ap (λ k. Some (mark h k e.1)) (sym (exact_names q e.0 ((Equal-is (name_cmp q e.0)).0 t)))
-      | false ↦ λ t. find_marked h q es
-    ] refl
-
-get_marked : (h : Objects) (q : Name) → finite.get (sealed_heap h) q ≡ option_map (mark h q) (finite.get h q)
-get_marked h q =
-    get-from_sorted name_cmp (map (sealed_entry h) (finite.entries h)) q (subst T (sym (sorted_kept h (finite.entries h))) (entries_sorted h))
-    ∙ find_marked h q (finite.entries h)
-    ∙ ap (option_map (mark h q)) (sym (get-entries h q))
-
 -- what a value was made of
 some_of : {A B : Type 0} (f : A → B) (o : Option A) (b : B) → option_map f o ≡ Some b → (a : A) × (o ≡ Some a) × (f a ≡ b)
 some_of f None b e = cc
 some_of f (Some a) b e = let same : f a ≡ b = cc in (a, refl, same)
 
-unmarked : (h : Objects) (q : Name) (p : Obj) → finite.get (sealed_heap h) q ≡ Some p → (o : Obj) × (finite.get h q ≡ Some o) × (mark h q o ≡ p)
-unmarked h q p is = some_of (mark h q) (finite.get h q) p (sym (get_marked h q) ∙ is)
+unmarked : (h : Objects) (q : Name) (p : Obj) → finite.get (sealed_heap h) q ≡ Some p → (o : Obj) × (finite.get h q ≡ Some o) × (sealed_at h q o ≡ p)
+unmarked h q p is = some_of (sealed_at h q) (finite.get h q) p (sym (got_sealed h q) ∙ is)
 
-marked : (h : Objects) (q : Name) (o : Obj) → finite.get h q ≡ Some o → finite.get (sealed_heap h) q ≡ Some (mark h q o)
-marked h q o is = get_marked h q ∙ ap (option_map (mark h q)) is
+marked : (h : Objects) (q : Name) (o : Obj) → finite.get h q ≡ Some o → finite.get (sealed_heap h) q ≡ Some (sealed_at h q o)
+marked h q o is = got_sealed h q ∙ ap (option_map (sealed_at h q)) is
 
 stays_marked : (h : Objects) → Stays h (sealed_heap h)
-stays_marked h = record { object = λ q kind has. record { object = mark h q has.object; is_there = marked h q has.object has.is_there; of_kind = has.of_kind } }
+stays_marked h = record { object = λ q kind has. record { object = sealed_at h q has.object; is_there = marked h q has.object has.is_there; of_kind = has.of_kind } }
 
 -- a root is not sealed
-root_open : (h : Objects) (q : Name) (o : Obj) → q.ticket ≡ 0 → o.sealed ≡ false → (mark h q o).sealed ≡ false
+root_open : (h : Objects) (q : Name) (o : Obj) → q.ticket ≡ 0 → o.sealed ≡ false → (sealed_at h q o).sealed ≡ false
 root_open h q o root unsealed =
     ap (λ s. s || is_shared h (q, o)) unsealed
     ∙ ap (λ t. (nat_lt 0 t && (if o.sealed then false else true)) && nat_le 2 (refs h q)) root
@@ -151,7 +121,7 @@ heap_marked : (m : Module) (h : Objects) → IsHeapOf m h → IsHeapOf m (sealed
 heap_marked m h heap = record {
   roots = λ kind q is.
       let old = heap.roots kind q is in
-      (mark h q old.0, marked h q old.0 old.1, old.2, root_open h q old.0 is.ticket old.3);
+      (sealed_at h q old.0, marked h q old.0 old.1, old.2, root_open h q old.0 is.ticket old.3);
   exposed = λ q p is ticket. let o = unmarked h q p is in subst (λ (x : Obj). IsRootOf m x.kind q) o.2 (heap.exposed q o.0 o.1 ticket);
   hidden = λ q p is hidden. let o = unmarked h q p is in subst (λ (x : Obj). IsNodeKind m x.kind) o.2 (heap.hidden q o.0 o.1 hidden);
   fields = λ q p declared is kind_is.

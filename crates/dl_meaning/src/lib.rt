@@ -1,13 +1,17 @@
 //! Laws of the meaning of statements: that a statement has at most one outcome, that it has one where it is typed, and
 //! that the relation by cases and the function that `dl_ir` defines say the same; and of calls of a checked module: that
-//! each has exactly one outcome, and leaves a heap of the module.
+//! each has exactly one outcome, and leaves a heap of the module. Expressions and conditions are evaluated here too.
 #![tactic(auto)]
+
+mod evaluation;
 
 ghost use Rattle.dl_meaning.specs.FirstStates.{FirstStatesFit, RootsAreHeld};
 ghost use Rattle.dl_meaning.specs.OneOutcome.{TypedHasOneOutcome, BodiesHaveOneOutcome, FunctionIsRelation};
 ghost use Rattle.dl_meaning.specs.Operations.{OperationsHaveOneOutcome, CallsGiveTheOutcome, CallsLeaveHeaps, ReplaysLeaveHeaps, LegalReplaysLeaveHeaps};
 ghost use Rattle.dl_meaning.specs.Single.{StatementsHaveAtMostOne, BlocksHaveAtMostOne, DoesIsTheOutcome, BlockDoesIsTheOutcome, LoopsIsTheOutcome};
 ghost use Rattle.dl_meaning.specs.Values.{TypedHasOneValue, TypedHasOneTruth};
+
+pub use evaluation::{evaluate, number_at, target_at, test};
 
 /// That a statement or a block has at most one outcome from a state, and that it is the one that the function gives.
 pub fn at_most_one()

@@ -26,6 +26,7 @@ stops_fixed f.If bytes = stops is_word bytes
 stops_fixed f.Else bytes = stops is_word bytes
 stops_fixed f.While bytes = stops is_word bytes
 stops_fixed f.Return bytes = stops is_word bytes
+stops_fixed f.Emit bytes = stops is_word bytes
 stops_fixed f.Less bytes = stops (is_pair 60) bytes
 stops_fixed f.Assign bytes = stops (is_pair 61) bytes
 stops_fixed f.LBrace bytes = true

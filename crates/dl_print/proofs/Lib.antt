@@ -3,3 +3,4 @@ mod Neighbours
 mod Parts
 mod Scanning
 mod Steps
+mod Versions

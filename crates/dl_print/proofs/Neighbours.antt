@@ -171,6 +171,9 @@ closed_store p g s = closed_simple (Name p.text ∷ Word f.Dot ∷ Name g.text �
 closed_return : (e : TreeExpr) → ClosedLines (spec.return_line e)
 closed_return e = closed_simple (Word f.Return ∷ Space ∷ spec.sum_pieces e) (open_sum e)
 
+closed_emit : (e : TreeExpr) → ClosedLines (spec.emit_line e)
+closed_emit e = closed_simple (Word f.Emit ∷ Space ∷ spec.sum_pieces e) (open_sum e)
+
 -- what a statement says, without its line
 abbrev what_lines : What → Lines
 what_lines = fold-What Lines Lines spec.statement_step (λ (s : TreeStmt-F Lines Lines). s.what)
@@ -194,6 +197,7 @@ closed_level (What-F.If c a b) what value holds =
 closed_level (What-F.While c a) what value holds =
     by_level (What-F.While c (map value a)) (spec.while_lines c (map spec.statement_lines (map value a))) refl (closed_while c (map spec.statement_lines (map value a)) (closed_list a value holds))
 closed_level (What-F.Return e) what value holds = by_level (What-F.Return e) (spec.return_line e) refl (closed_return e)
+closed_level (What-F.Emit e) what value holds = by_level (What-F.Emit e) (spec.emit_line e) refl (closed_emit e)
 
 -- a statement is what it says
 closed_whole : {S T : Type 0} (level : TreeStmt-F S T) (what : S → What) (value : T → TreeStmt) → ((s : S) → ClosedLines (what_lines (what s)))

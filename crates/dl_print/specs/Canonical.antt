@@ -53,6 +53,7 @@ fixed_text f.If = codes "if"
 fixed_text f.Else = codes "else"
 fixed_text f.While = codes "while"
 fixed_text f.Return = codes "return"
+fixed_text f.Emit = codes "emit"
 fixed_text f.LBrace = codes "{"
 fixed_text f.RBrace = codes "}"
 fixed_text f.LParen = codes "("
@@ -92,7 +93,7 @@ text_of = flat_map piece_text
 
 -- what a number says to the grammar
 abbrev pub number_lexis : ℕ → Lexis
-number_lexis n = if n == 1 then lexis.One else lexis.Number n
+number_lexis n = if n == 1 then lexis.One else (if n == 2 then lexis.Two else lexis.Number n)
 
 -- what a piece says to the grammar; white space says nothing
 abbrev pub piece_lexes : Piece → List Lexis
@@ -238,6 +239,10 @@ store_line p g right = simple_line (Name p.text ∷ Word f.Dot ∷ Name g.text �
 abbrev pub return_line : TreeExpr → Lines
 return_line e = simple_line (Word f.Return ∷ Space ∷ sum_pieces e)
 
+-- a number that is emitted
+abbrev pub emit_line : TreeExpr → Lines
+emit_line e = simple_line (Word f.Emit ∷ Space ∷ sum_pieces e)
+
 -- a branch
 abbrev pub if_lines : TreeCond → List Lines → List Lines → Lines
 if_lines c yes_block no_block level = Indent level ∷ Word f.If ∷ (test_pieces c ++ (block_pieces yes_block level ++ (otherwise_pieces no_block level ++ Feed ∷ [])))
@@ -253,6 +258,7 @@ statement_step (What-F.Store p g right) = store_line p g right
 statement_step (What-F.If c yes_block no_block) = if_lines c yes_block no_block
 statement_step (What-F.While c body) = while_lines c body
 statement_step (What-F.Return e) = return_line e
+statement_step (What-F.Emit e) = emit_line e
 
 -- a statement
 abbrev pub statement_lines : TreeStmt → Lines
@@ -319,7 +325,7 @@ op_lines o =
 
 -- ---- modules
 
--- the pieces of a module: its first line, its kinds and its operations
+-- the pieces of a module: its first line with the version, its kinds and its operations
 abbrev pub pieces_of : Tree → List Piece
 pieces_of tree = Word f.Domlock ∷ Space ∷ Number tree.version ∷ Feed ∷ (flat_map kind_line tree.kinds ++ flat_map op_lines tree.ops)
 

@@ -1,3 +1,4 @@
+//! How kinds and operations are put.
 ghost use Rattle.std.specs.Prelude.{◌≡◌, map, false};
 ghost use Rattle.std.specs.List.{flat_map};
 ghost use Rattle.dl_text.specs.Writing.{Puts};

@@ -1,3 +1,4 @@
+//! How expressions are put, with no more brackets than they need.
 ghost use Rattle.std.specs.Prelude.{◌≡◌, [], ◌∷◌, false};
 ghost use Rattle.dl_text.specs.Writing.{Puts};
 ghost use Rattle.dl_grammar.specs.declared.lexeme.Fixed.TheVariants.{Minus};

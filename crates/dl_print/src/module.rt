@@ -1,3 +1,4 @@
+//! How a whole module is put.
 ghost use Rattle.std.specs.Prelude.{◌≡◌, false};
 ghost use Rattle.dl_text.specs.Writing.{Puts};
 ghost use Rattle.dl_print.specs.Canonical.{canonical};

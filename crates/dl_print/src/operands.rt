@@ -1,3 +1,4 @@
+//! How conditions and right sides are put.
 ghost use Rattle.std.specs.Prelude.{◌≡◌, [], ◌∷◌, false};
 ghost use Rattle.dl_text.specs.Writing.{Puts};
 ghost use Rattle.dl_print.specs.Canonical.{text_of, side_pieces, condition_pieces, rhs_pieces, relation_fixed};

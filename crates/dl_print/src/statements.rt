@@ -1,3 +1,4 @@
+//! How statements are put, with their indentation.
 ghost use Rattle.std.specs.Prelude.{◌≡◌, ◌++◌, ◌∷◌, map, false};
 ghost use Rattle.dl_text.specs.Writing.{Puts};
 ghost use Rattle.dl_grammar.specs.declared.lexeme.Fixed.TheVariants as f;
@@ -61,6 +62,16 @@ fn put_return<K: Sink>(
     out.put(sink, b";\n")
 }
 
+fn put_emit<K: Sink>(e: &TreeExpr, level: &Level, out: &mut Out, sink: &mut K) -> Result<(), Failed>
+    requires { out.old.failed ≡ false }
+    ensures { Puts (K.taken sink.old) out.old (text_of (spec.emit_line e.now (depth level.now))) result (K.taken sink.new) out.new }
+{
+    put_indent(level, out, sink)?;
+    out.put(sink, b"emit ")?;
+    put_expression(e, out, sink)?;
+    out.put(sink, b";\n")
+}
+
 /// Puts the condition of a block statement in brackets.
 fn put_test<K: Sink>(c: &TreeCond, out: &mut Out, sink: &mut K) -> Result<(), Failed>
     requires { out.old.failed ≡ false }
@@ -108,6 +119,7 @@ pub fn put_statement<K: Sink>(
         }
         What::While { c, body } => put_while(c, body, level, out, sink),
         What::Return { e } => put_return(e, level, out, sink),
+        What::Emit { e } => put_emit(e, level, out, sink),
     }
 }
 

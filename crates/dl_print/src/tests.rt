@@ -1,3 +1,4 @@
+//! Texts with their canonical texts.
 use crate::print_module;
 use dl_grammar::read_module;
 use dl_io::MemSink;
@@ -53,6 +54,17 @@ op bare(r: HEAP) allocs 0 fuel 0 {
 }
 ";
 
+const EMITTING: &[u8] = b"domlock 2 op a(r:R,x:int)allocs 0 fuel 0{if(x<1){emit-x ;}emit(x+1)*2;}";
+
+const EMITTING_CANONICAL: &[u8] = b"domlock 2
+op a(r: R, x: int) allocs 0 fuel 0 {
+  if (x < 1) {
+    emit -x;
+  }
+  emit (x + 1) * 2;
+}
+";
+
 /// Prints into the sink what a text says.
 fn print(alloc: Global, text: &[u8], sink: &mut MemSink) -> Result<(), Fail> {
     if text.len() > 10_000 {
@@ -67,7 +79,7 @@ fn print(alloc: Global, text: &[u8], sink: &mut MemSink) -> Result<(), Fail> {
 
 #[test]
 fn prints_modules(rt: HostRuntime) -> Result<(), Fail> {
-    let table: [(&[u8], &[u8]); 7] = [
+    let table: [(&[u8], &[u8]); 9] = [
         (COUNTER, COUNTER),
         (SKEW, SKEW),
         (TREAP, TREAP),
@@ -75,6 +87,11 @@ fn prints_modules(rt: HostRuntime) -> Result<(), Fail> {
         (EVERYTHING, CANONICAL),
         (CANONICAL, CANONICAL),
         (b"domlock 1", b"domlock 1\n"),
+        (EMITTING, EMITTING_CANONICAL),
+        (
+            b"domlock 1 node emit{emit:emit}",
+            b"domlock 1\nnode emit { emit: emit }\n",
+        ),
     ];
     for (text, want) in table {
         let mut sink = MemSink::new(rt.alloc(), 100, &[], 10_000)?;

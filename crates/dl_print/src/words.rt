@@ -1,3 +1,4 @@
+//! How names, counts and the indentation of lines are put.
 ghost use Rattle.std.specs.Prelude.{◌≡◌, false, [], ◌∷◌};
 ghost use Rattle.dl_text.specs.Writing.{Puts};
 ghost use Rattle.dl_grammar.specs.declared.lexeme.Fixed.TheVariants.{Dot};

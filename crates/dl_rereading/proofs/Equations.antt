@@ -7,7 +7,7 @@ use Rattle.dl_grammar.specs.declared.tree.TreeExpr.TheVariants as e
 use Rattle.dl_grammar.specs.declared.tree.TreeExpr.TheFolds.{fold-roll-TreeExpr}
 use Rattle.dl_print.specs.Canonical.{Shown, expression_step, operation_shown, number_pieces, as_factor, shown, Factor, Word, Name}
 use Rattle.dl_grammar.specs.declared.lexeme.Fixed.TheVariants as f
-use Rattle.dl_print.specs.Canonical.{Lines, assign_line, store_line, if_lines, while_lines, return_line, statement_step, statement_lines}
+use Rattle.dl_print.specs.Canonical.{Lines, assign_line, store_line, if_lines, while_lines, return_line, emit_line, statement_step, statement_lines}
 use Rattle.dl_grammar.specs.declared.tree.TreeCond.{TreeCond}
 use Rattle.dl_grammar.specs.declared.tree.TreeStmt.{TreeStmt, TreeStmt-F, roll-TreeStmt}
 use Rattle.dl_grammar.specs.declared.tree.What.{What, What-F, roll-What, map-What}
@@ -75,6 +75,9 @@ lines_store l p g r = lines_by l (What-F.Store p g r) (what.Store p g r) (what.r
 pub lines_return : (l : ℕ) (x : TreeExpr) → statement_lines (at_line l (what.Return x)) ≡ return_line x
 lines_return l x = lines_by l (What-F.Return x) (what.Return x) (what.rolls-Return x)
 
+pub lines_emit : (l : ℕ) (x : TreeExpr) → statement_lines (at_line l (what.Emit x)) ≡ emit_line x
+lines_emit l x = lines_by l (What-F.Emit x) (what.Emit x) (what.rolls-Emit x)
+
 pub lines_if : (l : ℕ) (c : TreeCond) (yes_block no_block : List TreeStmt) → statement_lines (at_line l (what.If c yes_block no_block))
     ≡ if_lines c (map statement_lines yes_block) (map statement_lines no_block)
 lines_if l c yes_block no_block = lines_by l (What-F.If c yes_block no_block) (what.If c yes_block no_block) (what.rolls-If c yes_block no_block)
@@ -98,6 +101,9 @@ unlined_store l p g r = unlined_by l (What-F.Store p g r) (what.Store p g r) (wh
 
 unlined_return : (l : ℕ) (x : TreeExpr) → unlined_stmt (at_line l (what.Return x)) ≡ at_line 0 (what.Return (unlined_expr x))
 unlined_return l x = unlined_by l (What-F.Return x) (what.Return x) (what.rolls-Return x)
+
+unlined_emit : (l : ℕ) (x : TreeExpr) → unlined_stmt (at_line l (what.Emit x)) ≡ at_line 0 (what.Emit (unlined_expr x))
+unlined_emit l x = unlined_by l (What-F.Emit x) (what.Emit x) (what.rolls-Emit x)
 
 unlined_if : (l : ℕ) (c : TreeCond) (yes_block no_block : List TreeStmt) → unlined_stmt (at_line l (what.If c yes_block no_block))
     ≡ at_line 0 (what.If (unlined_cond c) (map unlined_stmt yes_block) (map unlined_stmt no_block))
@@ -123,6 +129,9 @@ same_store k l v p w g q r name field right =
 
 pub same_return : (k l : ℕ) (y x : TreeExpr) → unlined_expr y ≡ unlined_expr x → unlined_stmt (at_line k (what.Return y)) ≡ unlined_stmt (at_line l (what.Return x))
 same_return k l y x h = unlined_return k y ∙ ap (λ u. at_line 0 (what.Return u)) h ∙ sym (unlined_return l x)
+
+pub same_emit : (k l : ℕ) (y x : TreeExpr) → unlined_expr y ≡ unlined_expr x → unlined_stmt (at_line k (what.Emit y)) ≡ unlined_stmt (at_line l (what.Emit x))
+same_emit k l y x h = unlined_emit k y ∙ ap (λ u. at_line 0 (what.Emit u)) h ∙ sym (unlined_emit l x)
 
 pub same_if : (k l : ℕ) (d c : TreeCond) (first yes_block second no_block : List TreeStmt) → unlined_cond d ≡ unlined_cond c → map unlined_stmt first ≡ map unlined_stmt yes_block → map unlined_stmt second ≡ map unlined_stmt no_block
     → unlined_stmt (at_line k (what.If d first second)) ≡ unlined_stmt (at_line l (what.If c yes_block no_block))

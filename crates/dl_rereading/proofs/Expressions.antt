@@ -139,6 +139,7 @@ scaling_sign (lexis.Fixed f.Slash) o h = let same : op.Div ≡ o = cc in subst (
 scaling_sign (lexis.Fixed f.Percent) o h = let same : op.Rem ≡ o = cc in subst (Sign IsScaling) same (record { symbol = f.Percent; is = remainder })
 scaling_sign (lexis.Fixed g) o h = absurd (cc)
 scaling_sign lexis.One o h = absurd (cc)
+scaling_sign lexis.Two o h = absurd (cc)
 scaling_sign (lexis.Number n) o h = absurd (cc)
 scaling_sign (lexis.Name text) o h = absurd (cc)
 
@@ -147,6 +148,7 @@ adding_sign (lexis.Fixed f.Plus) o h = let same : op.Add ≡ o = cc in subst (Si
 adding_sign (lexis.Fixed f.Minus) o h = let same : op.Sub ≡ o = cc in subst (Sign IsAdding) same (record { symbol = f.Minus; is = minus })
 adding_sign (lexis.Fixed g) o h = absurd (cc)
 adding_sign lexis.One o h = absurd (cc)
+adding_sign lexis.Two o h = absurd (cc)
 adding_sign (lexis.Number n) o h = absurd (cc)
 adding_sign (lexis.Name text) o h = absurd (cc)
 

@@ -1,5 +1,5 @@
 -- Operations and modules that are spelled are spelled by their pieces.
-use Rattle.std.proofs.Common.{◌≡◌, ℕ, List, [], ◌∷◌, ◌++◌, map, length, Some, None, refl, sym, ap, ◌∙◌, subst}
+use Rattle.std.proofs.Common.{◌≡◌, ℕ, List, [], ◌∷◌, ◌++◌, map, length, Some, None, ◌⊎◌, inl, inr, refl, sym, ap, ◌∙◌, subst}
 use Rattle.std.specs.List.{flat_map}
 use Rattle.std.proofs.lemmas.List.{length-map}
 use Rattle.dl_grammar.specs.declared.lexeme.Fixed.TheVariants as f
@@ -116,39 +116,46 @@ op_turn done o before ready may =
 
 -- ---- modules
 
-version_one : (l : Lexis) (v : ℕ) → version_in l ≡ Some v → v ≡ 1
-version_one lexis.One v h = cc
-version_one (lexis.Number n) v h = absurd (cc)
-version_one (lexis.Fixed g) v h = absurd (cc)
-version_one (lexis.Name text) v h = absurd (cc)
+abbrev IsVersion : ℕ → Type 0
+IsVersion v = (v ≡ 1) ⊎ (v ≡ 2)
+
+a_version : (l : Lexis) (v : ℕ) → version_in l ≡ Some v → IsVersion v
+a_version lexis.One v h = inl (cc)
+a_version lexis.Two v h = inr (cc)
+a_version (lexis.Number n) v h = absurd (cc)
+a_version (lexis.Fixed g) v h = absurd (cc)
+a_version (lexis.Name text) v h = absurd (cc)
 
 record ModuleSo (d : Declared) : Type 0 where
-  is_one : d.version ≡ 1
+  known : IsVersion d.version
   kinds : AllMay KindMay [] d.kinds
   ops : AllMay OpMay [] d.ops
 
 always_module : Always ModuleSo rule.module_text
 always_module =
-    always_behind (λ l. always_then (always_one (λ v. v ≡ 1) _ _ (λ t v is some. version_one t.lexis v is)) (λ v one.
+    always_behind (λ l. always_then (always_one IsVersion _ _ (λ t v is some. a_version t.lexis v is)) (λ v known.
     always_then always_kinds (λ ks kinds. always_then (always_many always_op [] tt) (λ os ops.
-    always_nothing _ _ (record { is_one = one; kinds = kinds; ops = ops })))))
+    always_nothing _ _ (record { known = known; kinds = kinds; ops = ops })))))
 
 abbrev module_pieces : ℕ → List TreeKind → List TreeOp → List Piece
 module_pieces v kinds ops = Word f.Domlock ∷ Space ∷ Number v ∷ Feed ∷ (flat_map kind_line kinds ++ flat_map op_lines ops)
 
-record SameModule (kinds : List TreeKind) (ops : List TreeOp) (d : Declared) : Type 0 where
-  is_one : d.version ≡ 1
+record SameModule (v : ℕ) (kinds : List TreeKind) (ops : List TreeOp) (d : Declared) : Type 0 where
+  same_version : d.version ≡ v
   same_kinds : map unlined_kind d.kinds ≡ map unlined_kind kinds
   same_ops : map unlined_op d.ops ≡ map unlined_op ops
 
-prints_version : Prints (One version free) (Number 1 ∷ []) (λ v. v ≡ 1)
-prints_version = prints_one (Number 1) lexis.One refl (λ line. record { is = 1; valued = refl; free = refl; so = refl })
+prints_version : (v : ℕ) → IsVersion v → Prints (One version free) (Number v ∷ []) (λ n. n ≡ v)
+prints_version v (inl one) = subst (λ m. Prints (One version free) (Number m ∷ []) (λ n. n ≡ m)) (sym one)
+    (prints_one (Number 1) lexis.One refl (λ line. record { is = 1; valued = refl; free = refl; so = refl }))
+prints_version v (inr two) = subst (λ m. Prints (One version free) (Number m ∷ []) (λ n. n ≡ m)) (sym two)
+    (prints_one (Number 2) lexis.Two refl (λ line. record { is = 2; valued = refl; free = refl; so = refl }))
 
-prints_module : (v : ℕ) (kinds : List TreeKind) (ops : List TreeOp) → v ≡ 1 → AllMay KindMay [] kinds → AllMay OpMay [] ops → Prints rule.module_text (module_pieces v kinds ops) (SameModule kinds ops)
-prints_module v kinds ops one all_kinds all_ops = subst (λ n. Prints rule.module_text (module_pieces n kinds ops) (SameModule kinds ops)) (sym one)
-    (prints_word f.Domlock refl (λ l. spaced (prints_lead prints_version (λ n is_one. fed
+prints_module : (v : ℕ) (kinds : List TreeKind) (ops : List TreeOp) → IsVersion v → AllMay KindMay [] kinds → AllMay OpMay [] ops → Prints rule.module_text (module_pieces v kinds ops) (SameModule v kinds ops)
+prints_module v kinds ops known all_kinds all_ops =
+    prints_word f.Domlock refl (λ l. spaced (prints_lead (prints_version v known) (λ n same_version. fed
     (prints_then (prints_kinds kinds all_kinds) (λ ks same_kinds. prints_last (prints_list OpMay SameOps rule.op_behind op_lines op_turn [] ops all_ops [] refl) (λ os same_ops.
-    prints_nothing (record { is_one = is_one; same_kinds = same_kinds.0; same_ops = same_ops }))))))))
+    prints_nothing (record { same_version = same_version; same_kinds = same_kinds.0; same_ops = same_ops })))))))
 
 abbrev tree_with : ℕ → List TreeKind → List TreeOp → Tree
 tree_with v kinds ops = record { version = v; kinds = kinds; ops = ops; last = 0 }
@@ -157,12 +164,12 @@ pub pieces_are_a_text : PiecesAreAText
 pieces_are_a_text d ws vs text says = (
   again.value,
   again.text,
-  ap (λ v. tree_with v (map unlined_kind again.value.kinds) (map unlined_op again.value.ops)) (again.so.is_one ∙ sym so.is_one)
+  ap (λ v. tree_with v (map unlined_kind again.value.kinds) (map unlined_op again.value.ops)) again.so.same_version
       ∙ ap (λ ks. tree_with d.version ks (map unlined_op again.value.ops)) again.so.same_kinds ∙ ap (λ os. tree_with d.version (map unlined_kind d.kinds) os) again.so.same_ops,
 )
   where
     so : ModuleSo d
     so = always_module.kept (Read d) ws text
 
-    again : Made rule.module_text vs (SameModule d.kinds d.ops)
-    again = (prints_module d.version d.kinds d.ops so.is_one so.kinds so.ops).made vs says
+    again : Made rule.module_text vs (SameModule d.version d.kinds d.ops)
+    again = (prints_module d.version d.kinds d.ops so.known so.kinds so.ops).made vs says

@@ -199,13 +199,14 @@ pub prints_free_name : {B : Type 0} {M : Words → Rule B} {qs : List Piece} {Q 
 prints_free_name {B} {M} {qs} {Q} text second = prints_lead (prints_name free text (λ w. refl)) second
 
 -- what a number says is its value
-valued_number : (n : ℕ) (b : Bool) → (n == 1) ≡ b → number_in (if b then lexis.One else lexis.Number n) ≡ Some n
-valued_number n true is = ap Some (sym (eqb-true n 1 is))
-valued_number n false is = refl
+valued_number : (n : ℕ) (one two : Bool) → (n == 1) ≡ one → (n == 2) ≡ two → number_in (if one then lexis.One else (if two then lexis.Two else lexis.Number n)) ≡ Some n
+valued_number n true two h k = ap Some (sym (eqb-true n 1 h))
+valued_number n false true h k = ap Some (sym (eqb-true n 2 k))
+valued_number n false false h k = refl
 
 -- a number
 pub prints_number : (limit : ℕ → Option Bound) (n : ℕ) → limit n ≡ None → Prints (One number limit) (Number n ∷ []) (λ m. m ≡ n)
-prints_number limit n h = prints_one (Number n) (number_lexis n) refl (λ line. record { is = n; valued = valued_number n (n == 1) refl; free = h; so = refl })
+prints_number limit n h = prints_one (Number n) (number_lexis n) refl (λ line. record { is = n; valued = valued_number n (n == 1) (n == 2) refl refl; free = h; so = refl })
 
 -- ---- lists
 

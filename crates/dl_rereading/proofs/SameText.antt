@@ -113,6 +113,9 @@ what_level (What-F.While c a) what_of value holds =
 what_level (What-F.Return x) what_of value holds =
     ap what_lines (what_roll (What-F.Return x)) ∙ lines_as (What-F.Return (unlined_expr x)) _ (what.rolls-Return (unlined_expr x))
     ∙ ap (λ (s : Shown). simple_line (Word f.Return ∷ Space ∷ s.pieces)) (shown_same x) ∙ sym (lines_roll (What-F.Return x))
+what_level (What-F.Emit x) what_of value holds =
+    ap what_lines (what_roll (What-F.Emit x)) ∙ lines_as (What-F.Emit (unlined_expr x)) _ (what.rolls-Emit (unlined_expr x))
+    ∙ ap (λ (s : Shown). simple_line (Word f.Emit ∷ Space ∷ s.pieces)) (shown_same x) ∙ sym (lines_roll (What-F.Emit x))
 
 whole_level : {S T : Type 0} (level : TreeStmt-F S T) (what_of : S → What) (value : T → TreeStmt) → ((s : S) → what_lines (unlined_what (what_of s)) ≡ what_lines (what_of s))
     → statement_lines (unlined_stmt (roll-TreeStmt (map-TreeStmt S T What TreeStmt what_of value level))) ≡ statement_lines (roll-TreeStmt (map-TreeStmt S T What TreeStmt what_of value level))

@@ -21,7 +21,7 @@ use Rattle.dl_grammar.proofs.Always.{Always, always_one, always_nothing, always_
 use Rattle.dl_print.specs.Canonical.{Word, Space, Lines, relation_fixed, side_pieces, condition_pieces, rhs_pieces, block_pieces, otherwise_pieces, lines_at, statement_lines}
 use Rattle.dl_rereading.specs.Lines.{unlined_word, unlined_side, unlined_cond, unlined_rhs, unlined_stmt}
 use Rattle.dl_rereading.proofs.Prints.{Prints, AllMay, all_may_push, prints_list, same_push, prints_as, prints_grouped, prints_then, prints_last, prints_lead, prints_nothing, prints_one, prints_fixed, prints_word, prints_free_name, spaced, indented, fed, in_first, in_second}
-use Rattle.dl_rereading.proofs.Equations.{at_line, lines_assign, lines_store, lines_return, lines_if, lines_while, same_word, same_assign, same_store, same_return, same_if, same_while}
+use Rattle.dl_rereading.proofs.Equations.{at_line, lines_assign, lines_store, lines_return, lines_emit, lines_if, lines_while, same_word, same_assign, same_store, same_return, same_emit, same_if, same_while}
 use Rattle.dl_rereading.proofs.Expressions.{ExpressionAt, always_expression}
 
 -- ---- sides and conditions
@@ -107,6 +107,10 @@ return_at : (room l : ℕ) (x : TreeExpr) → ExpressionAt room x → StatementA
 return_at room l x h = by_lines _ _ _ (lines_return l x) (λ indent. indented (prints_word f.Return refl (λ k. spaced
     (prints_then h (λ y same. prints_word f.Semicolon refl (λ m. fed (prints_nothing (same_return k l y x same))))))))
 
+emit_at : (room l : ℕ) (x : TreeExpr) → ExpressionAt room x → StatementAt (rule.emitting room) (at_line l (what.Emit x))
+emit_at room l x h = by_lines _ _ _ (lines_emit l x) (λ indent. indented (prints_word f.Emit refl (λ k. spaced
+    (prints_then h (λ y same. prints_word f.Semicolon refl (λ m. fed (prints_nothing (same_emit k l y x same))))))))
+
 always_setting : (room : ℕ) → Always (StatementAt (rule.setting room)) (rule.setting room)
 always_setting room = always_behind (λ x. always_or
     (always_behind (λ l. always_then (always_right room) (λ r h. always_behind (λ m. always_nothing _ _ (assign_at room x r h)))))
@@ -114,6 +118,9 @@ always_setting room = always_behind (λ x. always_or
 
 always_returning : (room : ℕ) → Always (StatementAt (rule.returning room)) (rule.returning room)
 always_returning room = always_behind (λ l. always_then (always_expression room) (λ x h. always_behind (λ m. always_nothing _ _ (return_at room l x h))))
+
+always_emitting : (room : ℕ) → Always (StatementAt (rule.emitting room)) (rule.emitting room)
+always_emitting room = always_behind (λ l. always_then (always_expression room) (λ x h. always_behind (λ m. always_nothing _ _ (emit_at room l x h))))
 
 -- ---- blocks
 
@@ -187,7 +194,8 @@ module _ (inner : Rule TreeStmt) where
         always_or (always_weaken (λ s h. λ indent. in_first (h indent)) always_branch)
         (always_or (always_weaken (λ s h. λ indent. in_second (in_first (h indent))) always_loop)
         (always_or (always_weaken (λ s h. λ indent. in_second (in_second (in_first (h indent)))) (always_returning room))
-        (always_weaken (λ s h. λ indent. in_second (in_second (in_second (h indent)))) (always_setting room))))
+        (always_or (always_weaken (λ s h. λ indent. in_second (in_second (in_second (in_first (h indent))))) (always_emitting room))
+        (always_weaken (λ s h. λ indent. in_second (in_second (in_second (in_second (h indent))))) (always_setting room)))))
 
 pub always_statement : (room : ℕ) → Always (StatementAt (rule.statement room)) (rule.statement room)
 always_statement zero = always_over (rule.returning zero) zero (always_returning zero)

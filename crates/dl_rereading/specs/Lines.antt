@@ -60,6 +60,7 @@ unlined_what_step (What-F.Store p f right) = what.Store (unlined_word p) (unline
 unlined_what_step (What-F.If c yes_block no_block) = what.If (unlined_cond c) yes_block no_block
 unlined_what_step (What-F.While c body) = what.While (unlined_cond c) body
 unlined_what_step (What-F.Return a) = what.Return (unlined_expr a)
+unlined_what_step (What-F.Emit a) = what.Emit (unlined_expr a)
 
 -- a statement at line 0
 abbrev pub unlined_stmt : TreeStmt → TreeStmt

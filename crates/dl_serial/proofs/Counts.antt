@@ -1,13 +1,13 @@
--- how the numbers of objects and of hidden objects change with a heap
+-- How the numbers of objects and of hidden objects change with a heap
 use Rattle.std.proofs.Common.{◌≡◌, ℕ, zero, suc, ◌+◌, ◌<◌, ◌≤◌, Bool, true, false, cond, List, [], ◌∷◌, length, map, filter, refl, sym, ap, subst, ◌∙◌, Option, Some, None, is_some, arith, T}
 use Rattle.std.specs.Prelude.{nat_lt, slice_set, find, ◌&&◌}
 use Rattle.std.proofs.lemmas.Bool.{lt-ltb}
 use Rattle.std.specs.Cmp.{Equal-is}
-use Rattle.std.specs.Ordering.{is_eq, is_lt, eq_by_cmp}
+use Rattle.std.specs.Ordering.{is_eq, eq_by_cmp}
 use Rattle.std.specs.declared.cmp.Ordering.TheVariants.{Less, Equal, Greater}
 use Rattle.std.specs.FinMap as finite
-use Rattle.std.specs.FinMap.{get-remove, get-insert, entries-insert, get-entries, same_map, put, len-insert, is_sorted, entries-from_sorted, entries_sorted, len-entries}
-use Rattle.std.specs.FinMap.Entries.{by_order, below_all}
+use Rattle.std.specs.FinMap.{get-remove, get-insert, entries-insert, get-entries, same_map, put, len-insert, entries-from_sorted, entries_sorted, len-entries}
+use Rattle.std.specs.FinMap.Entries.{by_order}
 use Rattle.std.specs.Option.{option_map}
 use Rattle.std.proofs.lemmas.Cmp.{tied_itself}
 use Rattle.std.proofs.lemmas.List.{length-map}
@@ -18,6 +18,7 @@ use Rattle.dl_ir.specs.declared.objects.Obj.{Obj}
 use Rattle.dl_ir.specs.Heap.{Objects, name_cmp, hidden_count, with_field, with_field_of}
 use Rattle.dl_ir.proofs.NameOrder.{names_total, exact_names}
 use Rattle.dl_shape.specs.Settling.{is_loose, first_name, without, trim_by, trim, sealed_entry, sealed_heap, settled}
+use Rattle.dl_shape.proofs.Sealing.{sorted_sealed}
 use Rattle.dl_serial.specs.Growth.{Grows}
 
 -- the entries of a heap
@@ -175,15 +176,6 @@ grows-trim_by (suc count) h =
       | Some k ↦ λ is. grows_on (grows-remove h k (loose_hidden h h k is)) (grows-trim_by count (finite.remove h k))
     ] refl
 
--- sealing keeps the names and their order
-below-sealed : (g : Objects) (x : Name) (es : Held) → below_all name_cmp x (map (sealed_entry g) es) ≡ below_all name_cmp x es
-below-sealed g x [] = refl
-below-sealed g x (e ∷ es) = ap (λ b. is_lt (name_cmp x e.0) && b) (below-sealed g x es)
-
-sorted-sealed : (g : Objects) (es : Held) → is_sorted name_cmp (map (sealed_entry g) es) ≡ is_sorted name_cmp es
-sorted-sealed g [] = refl
-sorted-sealed g (e ∷ es) = λ i. below-sealed g e.0 es i && sorted-sealed g es i
-
 hidden_in-sealed : (g : Objects) (es : Held) → hidden_in (map (sealed_entry g) es) ≡ hidden_in es
 hidden_in-sealed g [] = refl
 hidden_in-sealed g (e ∷ es) = hidden_in-cons (sealed_entry g e) (map (sealed_entry g) es) ∙ ap (λ n. one e.0 + n) (hidden_in-sealed g es) ∙ sym (hidden_in-cons e es)
@@ -191,7 +183,7 @@ hidden_in-sealed g (e ∷ es) = hidden_in-cons (sealed_entry g e) (map (sealed_e
 grows-sealed : (h : Objects) → Grows h (sealed_heap h) 0 0
 grows-sealed h =
     let made : finite.entries (sealed_heap h) ≡ map (sealed_entry h) (finite.entries h)
-    = entries-from_sorted name_cmp _ (subst T (sym (sorted-sealed h (finite.entries h))) (entries_sorted h)) in
+    = entries-from_sorted name_cmp _ (subst T (sym (sorted_sealed h (finite.entries h))) (entries_sorted h)) in
     let same_hidden : hidden_count (sealed_heap h) ≡ hidden_count h = ap hidden_in made ∙ hidden_in-sealed h (finite.entries h) in
     let same_len : finite.len (sealed_heap h) ≡ finite.len h
     = len-entries (sealed_heap h) ∙ ap length made ∙ length-map (finite.entries h) (sealed_entry h) ∙ sym (len-entries h) in

@@ -8,6 +8,7 @@ mod Lines
 pub mod Listed
 mod Modules
 mod Pools
+mod Refusing
 mod Returns
 mod Rising
 mod RootNumbers

@@ -8,7 +8,6 @@ use Rattle.dl_ir.specs.declared.modules.Module.{Module}
 use Rattle.dl_ir.specs.Heap.{Objects, View, hidden_count}
 use Rattle.dl_shape.specs.Operation.{operated}
 use Rattle.dl_serial.specs.declared.serving.Line.{Line}
-use Rattle.dl_serial.specs.Growth.{Grows}
 use Rattle.dl_serial.specs.Progress.{IsAfter, Passes}
 use Rattle.dl_serial.specs.Rooms.{allocs_of}
 use Rattle.dl_serial.specs.Serving.{Serves, IsEntryOf, IsRefusalOf, move_count, carries_out, refuses}
@@ -38,7 +37,6 @@ module _ (source : Module) (places first : ℕ) (start : Objects) (calls : List 
     free = after.free;
     version = omega (arith, after.version);
     few = omega (arith, after.few);
-    memory = after.memory;
   }
 
   -- a call is carried out
@@ -46,13 +44,11 @@ module _ (source : Module) (places first : ℕ) (start : Objects) (calls : List 
       → IsAfter source places first start calls count line heap → slice_get calls count ≡ Some call → allocs_of source call ≤ line.free
       → IsEntryOf source heap.objects call line.ticket (count + 1) line.version entry
       → left ≡ record heap { objects = (operated source heap.objects line.ticket call).objects }
-      → Grows heap.objects left.objects 0 (allocs_of source call)
       → Passes line next (allocs_of source call) entry
       → entries ≡ next.entries ++ entry ∷ []
       → IsAfter source places first start calls (count + 1) (record next { entries = entries }) left
-  after_entry count line next heap left call entry entries after there fits is leaves grows passes pushed =
+  after_entry count line next heap left call entry entries after there fits is leaves passes pushed =
       let objects : left.objects ≡ (operated source heap.objects line.ticket call).objects = ap (λ (v : View). v.objects) leaves in
-      let room : left.room ≡ heap.room = ap (λ (v : View). v.room) leaves in
       let hidden : hidden_count left.objects ≡ hidden_count (operated source heap.objects line.ticket call).objects = ap hidden_count objects in
       let pushed_on : entries ≡ line.entries ++ entry ∷ [] = pushed ∙ ap (λ (es : List Entry). es ++ entry ∷ []) passes.entries in
       let longer : length entries ≡ length line.entries + 1 = ap length pushed_on ∙ length-append line.entries (entry ∷ []) in
@@ -63,5 +59,4 @@ module _ (source : Module) (places first : ℕ) (start : Objects) (calls : List 
         free = omega (arith, passes.free, is.returned, hidden, after.free);
         version = omega (arith, passes.version, after.version, one_move (allocs_of source call), one_move entry.returned);
         few = omega (arith, longer, after.few);
-        memory = record { room = omega (arith, after.memory.room, grows.roots, room) };
       }

@@ -1,5 +1,5 @@
 -- the entries and refusals of a line of calls, as lists in rising order
-use Rattle.std.proofs.Common.{◌≡◌, ℕ, ◌+◌, ◌-◌, ◌<◌, ◌≤◌, List, [], ◌∷◌, ◌++◌, length, length-append, refl, sym, ap, subst, ◌∙◌, arith}
+use Rattle.std.proofs.Common.{◌≡◌, ℕ, ◌+◌, ◌-◌, ◌<◌, ◌≤◌, List, [], ◌∷◌, ◌++◌, length, length-append, arith}
 use Rattle.std.specs.Prelude.{All}
 use Rattle.std.specs.List.Sorted.{IsNonDecreasingBy}
 use Rattle.std.proofs.lemmas.List.Elements.{All-nil, All-push, All-weaker, All-get_or}
@@ -11,8 +11,8 @@ use Rattle.dl_ir.specs.declared.moves.Move.{Move}
 use Rattle.dl_ir.specs.declared.modules.Module.{Module}
 use Rattle.dl_ir.specs.Heap.{Objects}
 use Rattle.dl_shape.specs.Pool.{moves_of}
-use Rattle.dl_shape.specs.Rising.{in_rising, AreApart}
-use Rattle.dl_shape.proofs.Rising.{Rises, rises_push, rises_apart, rising_is}
+use Rattle.dl_shape.specs.Rising.{AreApart}
+use Rattle.dl_shape.proofs.Rising.{Rises, rises_push, rises_apart}
 use Rattle.dl_serial.specs.Serving.{Serves, begins, carries_out, refuses}
 use Rattle.dl_serial.proofs.Rising.{serves_numbered, numbered_rises}
 
@@ -56,7 +56,7 @@ module _ (source : Module) (places first : ℕ) (start : Objects) (calls : List 
   serves_caller (refuses {refusals = rs} call r before there short is) = All-push (λ (r : Refusal). r.caller ≡ 1) rs r (serves_caller before) is.caller
 
   -- their indexes are among those of the calls so far
-  within : {n version : ℕ} {es : List Entry} {rs : List Refusal} {heap : Objects} → Serves source places first start calls n es rs heap version
+  pub within : {n version : ℕ} {es : List Entry} {rs : List Refusal} {heap : Objects} → Serves source places first start calls n es rs heap version
       → All (λ (r : Refusal). r.index ≤ n) rs
   within begins = All-nil (λ (r : Refusal). r.index ≤ 0)
   within (carries_out {count = n} {refusals = rs} call e before there fits is) =

@@ -1,6 +1,7 @@
-use Rattle.std.proofs.Common.{◌≡◌, ℕ, ◌+◌, ◌<◌, ◌==◌, Bool, true, false, List, [], ◌∷◌, ◌++◌, length, filter, Some, slice_get, refl, sym, ◌∙◌, ap, subst, arith, append_assoc, length-append, zero, suc, nat_lt, add-one}
+-- The versions of the moves of served calls.
+use Rattle.std.proofs.Common.{◌≡◌, ℕ, ◌+◌, ◌<◌, ◌==◌, true, false, List, [], ◌∷◌, ◌++◌, length, Some, slice_get, refl, sym, ◌∙◌, ap, subst, arith, length-append, zero, suc, nat_lt, add-one}
 use Rattle.std.proofs.lemmas.List.{append-nil}
-use Rattle.std.proofs.lemmas.List.Elements.{All-nil, All-cons}
+use Rattle.std.proofs.lemmas.List.Elements.{All-nil, All-cons, All-push}
 use Rattle.std.specs.Prelude.{All}
 use Rattle.std.proofs.lemmas.Bool.Decides.{nat_tests}
 use Rattle.std.proofs.lemmas.Grind.{flat_map-append}
@@ -10,7 +11,7 @@ use Rattle.dl_ir.specs.declared.calls.Call.{Call}
 use Rattle.dl_ir.specs.declared.modules.Module.{Module}
 use Rattle.dl_ir.specs.declared.moves.Move.{Move}
 use Rattle.dl_ir.specs.Heap.{Objects}
-use Rattle.dl_shape.specs.Pool.{moves_of, moves_of_entry, in_rising_versions, reservation_of, return_of, allocs_at}
+use Rattle.dl_shape.specs.Pool.{moves_of, moves_of_entry, in_rising_versions, reservation_of, return_of, allocs_at, HasVersionsOfMovesAlone}
 use Rattle.dl_shape.proofs.Rising.{Rises, rising_is}
 use Rattle.dl_serial.specs.Rooms.{allocs_of}
 use Rattle.dl_serial.specs.Serving.{Serves, begins, carries_out, refuses, IsEntryOf, move_count, version_made}
@@ -112,3 +113,14 @@ module _ (source : Module) (places first : ℕ) (start : Objects) (calls : List 
   pub serves_rise : {n version : ℕ} {es : List Entry} {rs : List Refusal} {heap : Objects} → Serves source places first start calls n es rs heap version
       → in_rising_versions (moves_of source (calls ∷ []) es) ≡ moves_of source (calls ∷ []) es
   serves_rise served = numbered_rise _ (serves_numbered served).numbered
+
+  -- an entry that made no move has the version 0
+  pub serves_versions : {n version : ℕ} {es : List Entry} {rs : List Refusal} {heap : Objects} → Serves source places first start calls n es rs heap version
+      → All (HasVersionsOfMovesAlone source (calls ∷ [])) es
+  serves_versions begins = All-nil (HasVersionsOfMovesAlone source (calls ∷ []))
+  serves_versions (carries_out {count = n} {version = v} {entries = es} call e before there fits is) =
+      All-push (HasVersionsOfMovesAlone source (calls ∷ [])) es e (serves_versions before) (record {
+        unreserved = λ none. is.reserved_at ∙ ap (version_made v) (sym (allocs_same source calls n e.caller e.index call there is.caller is.index) ∙ none);
+        unreturned = λ none. is.returned_at ∙ ap (version_made (v + move_count (allocs_of source call))) none;
+      })
+  serves_versions (refuses call r before there short is) = serves_versions before

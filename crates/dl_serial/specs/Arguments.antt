@@ -1,3 +1,4 @@
+-- Which arguments the locals of a type can hold.
 use Rattle.std.specs.Prelude.{◌≡◌, ◌<◌, ◌^◌, ℕ, ℤ, pos, List, [], ◌∷◌}
 use Rattle.dl_ir.specs.declared.modules.LocalDecl.{LocalDecl}
 use Rattle.dl_ir.specs.declared.modules.Ty.{Ty}

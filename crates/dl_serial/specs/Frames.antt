@@ -1,3 +1,4 @@
+-- The state of the meaning that a frame and a heap are.
 use Rattle.dl_serial.specs.declared.frames.Frame.{Frame}
 use Rattle.dl_serial.specs.declared.frames.Task.{Task}
 use Rattle.std.specs.Prelude.{◌+◌, ◌≤◌}

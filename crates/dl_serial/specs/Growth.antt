@@ -1,3 +1,4 @@
+-- How many objects a heap may have more than another.
 use Rattle.std.specs.Prelude.{◌≡◌, ℕ, ◌+◌, ◌≤◌}
 use Rattle.std.specs.FinMap as finite
 use Rattle.dl_ir.specs.Heap.{Objects, hidden_count}

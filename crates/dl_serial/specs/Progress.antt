@@ -1,5 +1,5 @@
+-- Where a line of calls stands.
 use Rattle.std.specs.Prelude.{◌≡◌, ℕ, ◌+◌, ◌*◌, ◌<◌, ◌≤◌, ◌^◌, List, length}
-use Rattle.std.specs.FinMap as finite
 use Rattle.dl_ir.specs.declared.answers.Entry.{Entry}
 use Rattle.dl_ir.specs.declared.calls.Call.{Call}
 use Rattle.dl_ir.specs.declared.modules.Module.{Module}
@@ -7,16 +7,11 @@ use Rattle.dl_ir.specs.Heap.{Objects, View, hidden_count}
 use Rattle.dl_serial.specs.declared.serving.Line.{Line}
 use Rattle.dl_serial.specs.Serving.{Serves, move_count}
 
--- the heap has memory for its roots and as many hidden objects as there are places
-pub record HasPlaces (places : ℕ) (heap : View) : Type 0 where
-  pub room : finite.len heap.objects + places ≤ heap.room + hidden_count heap.objects
-
 -- the next call of a line may be carried out
 pub record IsReady (line : Line) (heap : View) : Type 0 where
   pub ticket : 0 < line.ticket
   pub next_ticket : line.ticket + 1 < 2 ^ 64
   pub version : line.version + 2 < 2 ^ 64
-  pub room : finite.len heap.objects + line.free ≤ heap.room
   pub places : line.free + hidden_count heap.objects < 2 ^ 32
 
 -- where a line of calls stands when so many of them are done
@@ -26,7 +21,6 @@ pub record IsAfter (source : Module) (places first : ℕ) (start : Objects) (cal
   pub free : line.free + hidden_count heap.objects ≡ places
   pub version : line.version ≤ 2 * count
   pub few : length line.entries ≤ count
-  pub memory : HasPlaces places heap
 
 -- what an entry changes in a line: the next ticket, the version, and the free places
 pub record Passes (before after : Line) (need : ℕ) (entry : Entry) : Type 0 where

@@ -1,3 +1,4 @@
+-- How a line of calls is worked off, call by call. What the runner promises does not rest on it.
 use Rattle.std.specs.Prelude.{◌≡◌, ℕ, ◌+◌, ◌<◌, ◌≤◌, ◌==◌, ◌++◌, List, [], ◌∷◌, Some, length, slice_get, if◌then◌else◌}
 use Rattle.dl_ir.specs.declared.answers.Entry.{Entry}
 use Rattle.dl_ir.specs.declared.answers.Refusal.{Refusal}

@@ -1,3 +1,5 @@
+//! What a running operation has.
+
 use dl_ir::{Emits, Value};
 
 /// What the running operation is given: its ticket, and the number of objects that it may make.

@@ -2,7 +2,6 @@
 #![tactic(auto)]
 
 mod frames;
-mod numbers;
 mod operations;
 mod run;
 mod serving;

@@ -1,3 +1,5 @@
+//! The operation of one call.
+
 ghost use Rattle.std.specs.Prelude.{◌≡◌, ◌+◌, ◌<◌, ◌≤◌, ℤ, IfOk, OnOk, map};
 ghost use Rattle.std.specs.List.{zip};
 ghost use Rattle.std.specs.FinMap as finite;
@@ -8,7 +10,7 @@ ghost use Rattle.dl_ir.specs.Heap.{HasStart, IsHeapOf, blank};
 ghost use Rattle.dl_meaning.specs.FirstStates.{HasTicketsBelow};
 ghost use Rattle.dl_serial.specs.Arguments.{CanHold, AllHeld};
 ghost use Rattle.dl_serial.specs.Growth.{Grows};
-ghost use Rattle.dl_serial.specs.Rooms.{HasRoomFor, allocs_of};
+ghost use Rattle.dl_serial.specs.Rooms.{allocs_of};
 ghost use Rattle.dl_shape.specs.Operation.{argument_value as value_given, first_locals as locals_first, body_outcome, result_of, operated};
 
 use crate::frames::{Frame, Task};
@@ -17,8 +19,9 @@ use dl_ir::{Answer, Call, Emits, End, Heap, LocalDecl, Module, Name, OpDecl, Ty,
 use dl_shape::settle;
 use std::alloc::{AllocError, Global};
 
-/// Runs the operation of a call, with a ticket that names what it makes, and settles the heap. Where memory is
-/// wanting the heap is spent: it is of no use but to be dropped.
+/// Runs the operation of a call, with a ticket that names what it makes, and settles the heap. Memory is wanting too
+/// where the heap has no room for as many objects as the operation may make. The heap is spent then: it is of no use but
+/// to be dropped.
 pub fn run_op(
     alloc: Global,
     source: &Module,
@@ -30,7 +33,6 @@ pub fn run_op(
     requires of_module { IsCallOf source.now call.now }
     requires heap { IsHeapOf source.now heap.old.objects }
     requires below { HasTicketsBelow ticket heap.old.objects }
-    requires room { HasRoomFor source.now call.now heap.old }
     ensures answer { IfOk result (λ answer. answer ≡ (operated source.now heap.old.objects ticket call.now).answer) }
     ensures left { OnOk result (heap.new ≡ record heap.old { objects = (operated source.now heap.old.objects ticket call.now).objects }) }
     ensures heap { OnOk result (IsHeapOf source.now heap.new.objects) }
@@ -38,7 +40,10 @@ pub fn run_op(
     ensures grows { OnOk result (Grows heap.old.objects heap.new.objects 0 (allocs_of source.now call.now)) }
 {
     match source.ops.get(call.op as usize) {
-        Some(op) => run_body(alloc, source, heap, ticket, op, call.args.as_slice()),
+        Some(op) if heap.has_room_for(op.allocs as usize) => {
+            run_body(alloc, source, heap, ticket, op, call.args.as_slice())
+        }
+        Some(_) => Err(AllocError),
         None => unreachable!(),
     }
 }

@@ -1,3 +1,5 @@
+//! Running statements, blocks and loops.
+
 ghost use Rattle.std.specs.Prelude.{◌≡◌, ◌<◌, ◌≤◌};
 ghost use Rattle.dl_ir.specs.Heap.{HasStart};
 ghost use Rattle.dl_ir.specs.Meaning.{does, block_does, loops};
@@ -5,12 +7,12 @@ ghost use Rattle.dl_serial.specs.Frames.{state_of, context_of, HasRoom};
 ghost use Rattle.dl_serial.specs.Growth.{Grows};
 
 use crate::frames::{Frame, Task};
-use crate::numbers::{evaluate, target_at, test};
 use crate::steps::{
     end_of_fault, run_copy, run_emit, run_follow, run_link, run_load, run_new, run_null,
     run_set_int, run_store,
 };
 use dl_ir::{Block, Cond, End, Heap, Module, Stmt};
+use dl_meaning::{evaluate, target_at, test};
 
 /// Runs a statement, and answers how the operation ended there, if it did.
 #[cycle(run)]

@@ -1,4 +1,6 @@
-ghost use Rattle.std.specs.Prelude.{◌≡◌, ℕ, ◌+◌, ◌<◌, ◌≤◌, ◌^◌, ◌∷◌, [], List, IfOk, OnOk, Some, length, slice_get};
+//! A line of calls, carried out or refused one after another.
+
+ghost use Rattle.std.specs.Prelude.{◌≡◌, ℕ, All, ◌+◌, ◌<◌, ◌≤◌, ◌^◌, ◌∷◌, [], List, IfOk, OnOk, Some, length, slice_get};
 ghost use Rattle.dl_ir.specs.CallForms.{IsCallOf, AreCallsOf};
 ghost use Rattle.dl_ir.specs.Checked.{IsChecked};
 ghost use Rattle.dl_ir.specs.Cover.{Covers};
@@ -6,12 +8,14 @@ ghost use Rattle.dl_ir.specs.Heap.{IsHeapOf, Objects, hidden_count};
 ghost use Rattle.dl_ir.specs.declared.calls.Call.{Call as OneCall};
 ghost use Rattle.dl_meaning.specs.FirstStates.{HasTicketsBelow};
 ghost use Rattle.dl_shape.specs.Operation.{operated};
-ghost use Rattle.dl_shape.specs.Pool.{moves_of, in_rising_versions, IsLawfulPool};
+ghost use Rattle.dl_ir.specs.declared.moves.Move.{Move as OneMove};
+ghost use Rattle.dl_shape.specs.Pool.{moves_of, in_rising_versions, IsLawfulPool, HasVersionsOfMovesAlone};
+ghost use Rattle.dl_shape.specs.Rising.{AreApart};
 ghost use Rattle.dl_shape.specs.Replay.{replayed, greatest_ticket, IsLegal};
-ghost use Rattle.dl_serial.specs.Growth.{Grows};
-ghost use Rattle.dl_serial.specs.Progress.{HasPlaces, IsReady, IsAfter, Passes};
+ghost use Rattle.dl_serial.specs.Progress.{IsReady, IsAfter, Passes};
+ghost use Rattle.dl_serial.specs.Refusing.{AreOfOne, RefusesExactly};
 ghost use Rattle.dl_serial.specs.Rooms.{allocs_of};
-ghost use Rattle.dl_serial.specs.Serving.{Serves, IsEntryOf, move_count, version_made};
+ghost use Rattle.dl_serial.specs.Serving.{IsEntryOf, move_count, version_made};
 
 use crate::operations::run_op;
 use dl_ir::{Call, Calls, Entry, Heap, Module, Refusal};
@@ -38,8 +42,8 @@ pub struct Line {
 }
 
 /// Runs the operations of caller 1 one after another, with tickets from `first` on. An operation is refused exactly
-/// where the places less the hidden objects are below the number of objects that it may make. Where memory is
-/// wanting the heap is spent: it is of no use but to be dropped.
+/// where the places less the hidden objects are below the number of objects that it may make. Where memory is wanting,
+/// also because the heap has no room, the heap is spent: it is of no use but to be dropped.
 pub fn run_calls(
     alloc: Global,
     source: &Module,
@@ -54,12 +58,15 @@ pub fn run_calls(
     requires next { first ≡ greatest_ticket heap.old.objects + 1 }
     requires small { first ≤ 4611686018427387905 }
     requires hidden { hidden_count heap.old.objects ≤ places }
-    requires room { HasPlaces places heap.old }
     ensures replay { IfOk result (λ served. replayed source.now (calls.now ∷ []) heap.old.objects served.entries ≡ heap.new.objects) }
     ensures legal { IfOk result (λ served. IsLegal source.now (calls.now ∷ []) heap.old.objects served.entries) }
     ensures covers { IfOk result (λ served. Covers (calls.now ∷ []) served.entries served.refusals) }
-    ensures serves { IfOk result (λ served. (version : ℕ) × Serves source.now places first heap.old.objects calls.now (length calls.now) served.entries served.refusals heap.new.objects version) }
+    ensures refuses { IfOk result (λ served. RefusesExactly places source.now calls.now heap.old.objects served.entries served.refusals) }
+    ensures refusals { IfOk result (λ served. AreOfOne served.refusals) }
+    ensures short { IfOk result (λ served. length served.entries ≤ length calls.now) }
     ensures rising { IfOk result (λ served. in_rising_versions (moves_of source.now (calls.now ∷ []) served.entries) ≡ moves_of source.now (calls.now ∷ []) served.entries) }
+    ensures apart { IfOk result (λ served. AreApart (λ (move : OneMove). move.version) (moves_of source.now (calls.now ∷ []) served.entries)) }
+    ensures versions { IfOk result (λ served. All (HasVersionsOfMovesAlone source.now (calls.now ∷ [])) served.entries) }
     ensures pool { IfOk result (λ served. IsLawfulPool places source.now (calls.now ∷ []) heap.old.objects served.entries served.refusals) }
     ensures free { IfOk result (λ served. served.free + hidden_count heap.new.objects ≡ places) }
     ensures heap { OnOk result (IsHeapOf source.now heap.new.objects) }
@@ -132,7 +139,6 @@ fn carry_out(
     requires need { allocs_of source.now call.now ≤ line.old.free }
     ensures entry { IfOk result (λ entry. IsEntryOf source.now heap.old.objects call.now line.old.ticket index line.old.version entry) }
     ensures left { OnOk result (heap.new ≡ record heap.old { objects = (operated source.now heap.old.objects line.old.ticket call.now).objects }) }
-    ensures grows { OnOk result (Grows heap.old.objects heap.new.objects 0 (allocs_of source.now call.now)) }
     ensures line { IfOk result (λ entry. Passes line.old line.new (allocs_of source.now call.now) entry) }
 {
     let need = allocs(source, call);

@@ -1,3 +1,5 @@
+//! What each simple statement does.
+
 ghost use Rattle.std.specs.Prelude.{◌≡◌, ◌<◌, ◌≤◌, ◌+◌, None, if◌then◌else◌, is_none, slice_get, slice_set, option_and_then};
 ghost use Rattle.std.specs.FinMap as finite;
 ghost use Rattle.dl_ir.specs.Heap.{HasStart};
@@ -9,8 +11,8 @@ ghost use Rattle.dl_ir.specs.declared.statements.Stmt.{Stmt-F};
 ghost use Rattle.dl_ir.specs.declared.objects.Obj.{Obj};
 
 use crate::frames::{Frame, Task};
-use crate::numbers::{evaluate, target_at};
 use dl_ir::{End, Expr, Fault, Fields, Heap, Module, Name, Obj, Value};
+use dl_meaning::{evaluate, target_at};
 
 /// The end that a fault in an expression is.
 pub fn end_of_fault(fault: Fault) -> End

@@ -1,3 +1,5 @@
+//! A counter that is added to.
+
 ghost use Rattle.std.specs.Prelude.{◌≡◌, ◌∷◌, [], ℤ, pos, true, IfOk};
 ghost use Rattle.dl_ir.specs.CallForms.{IsCallOf};
 ghost use Rattle.dl_ir.specs.Checked.{IsChecked};

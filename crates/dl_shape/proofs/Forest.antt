@@ -11,16 +11,14 @@ use Rattle.dl_ir.specs.declared.names.Value.{Value}
 use Rattle.dl_ir.specs.declared.names.Value.TheVariants.{Int, Ref}
 use Rattle.dl_ir.specs.declared.objects.Obj.{Obj}
 use Rattle.dl_ir.specs.Heap.{Objects}
-use Rattle.dl_shape.specs.References.{name_eq, refers_to, refs, IsForest}
+use Rattle.dl_shape.specs.References.{refers_to, refs, IsForest}
 use Rattle.dl_shape.specs.Settling.{is_shared}
 use Rattle.dl_shape.specs.Forests.{names_root, stands_in_forest}
+use Rattle.dl_ir.proofs.NameOrder.{name_eq_itself}
 use Rattle.dl_ir.proofs.Members.{Held, In, in_entries, get_in, all_pass, term_le, zeros}
 
 abbrev one_if : Bool → ℕ
 one_if b = cond b 1 0
-
-name_eq_itself : (n : Name) → name_eq n n ≡ true
-name_eq_itself n = grind (arith, nat_tests)
 
 -- a value that refers to a root refers to one
 root_of : (v : Value) → names_root v ≡ true → (n : Name) × (n.ticket ≡ 0) × (refers_to n v ≡ true)

@@ -1,4 +1,5 @@
 pub mod Forest
+pub mod Legal
 pub mod Order
 pub mod Rising
 pub mod Sealing

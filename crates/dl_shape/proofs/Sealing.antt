@@ -19,16 +19,17 @@ use Rattle.dl_ir.proofs.Keeping.{refs-over}
 use Rattle.dl_shape.specs.Settling.{sealed_entry, sealed_heap}
 use Rattle.dl_shape.proofs.Order.{named}
 
+-- sealing keeps the names and their order
 below_sealed : (g : Objects) (x : Name) (es : Held) → below_all name_cmp x (map (sealed_entry g) es) ≡ below_all name_cmp x es
 below_sealed g x [] = refl
 below_sealed g x (e ∷ es) = ap (λ b. is_lt (name_cmp x e.0) && b) (below_sealed g x es)
 
-sorted_sealed : (g : Objects) (es : Held) → is_sorted name_cmp (map (sealed_entry g) es) ≡ is_sorted name_cmp es
+pub sorted_sealed : (g : Objects) (es : Held) → is_sorted name_cmp (map (sealed_entry g) es) ≡ is_sorted name_cmp es
 sorted_sealed g [] = refl
 sorted_sealed g (e ∷ es) = λ i. below_sealed g e.0 es i && sorted_sealed g es i
 
 -- the object of this name, sealed if it is shared
-abbrev sealed_at : Objects → Name → Obj → Obj
+abbrev pub sealed_at : Objects → Name → Obj → Obj
 sealed_at g q o = record o { sealed = o.sealed || is_shared g (q, o) }
 
 found_sealed : (g : Objects) (q : Name) (es : Held) → maps.find name_cmp q (map (sealed_entry g) es) ≡ option_map (sealed_at g q) (maps.find name_cmp q es)
@@ -39,7 +40,7 @@ found_sealed g q (e ∷ es) =
       | false ↦ λ t. found_sealed g q es
     ] refl
 
-got_sealed : (h : Objects) (q : Name) → maps.get (sealed_heap h) q ≡ option_map (sealed_at h q) (maps.get h q)
+pub got_sealed : (h : Objects) (q : Name) → maps.get (sealed_heap h) q ≡ option_map (sealed_at h q) (maps.get h q)
 got_sealed h q =
     get-from_sorted name_cmp (map (sealed_entry h) (maps.entries h)) q (subst T (sym (sorted_sealed h (maps.entries h))) (entries_sorted h))
     ∙ found_sealed h q (maps.entries h)

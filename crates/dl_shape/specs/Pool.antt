@@ -43,6 +43,11 @@ in_rising_versions moves = in_rising (λ (move : Move). move.version) moves
 abbrev pub versions_of : Module → List (List Call) → Entry → List ℕ
 versions_of source files entry = map (λ (move : Move). move.version) (moves_of_entry source files entry)
 
+-- an entry has no version but those of its moves: where it made none, its version is 0
+pub record HasVersionsOfMovesAlone (source : Module) (files : List (List Call)) (entry : Entry) : Type 0 where
+  pub unreserved : allocs_at source files entry.caller entry.index ≡ 0 → entry.reserved_at ≡ 0
+  pub unreturned : entry.returned ≡ 0 → entry.returned_at ≡ 0
+
 -- the number of free places at a version
 abbrev pub free_at : ℕ → Objects → List Move → ℕ → ℤ
 free_at places heap moves version = fold (λ free (move : Move). free +ℤ move.change) (pos places -ℤ pos (hidden_count heap))

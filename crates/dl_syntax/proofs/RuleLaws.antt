@@ -155,3 +155,10 @@ pub gives_why : (source : Module) (text : List ℕ) (result : Result (List Call)
     → IfErr result (λ fault. fault ≢ Memory → IsCallsFault source text fault)
 gives_why source text (Ok calls) gives = tt
 gives_why source text (Err fault) gives = λ other. lines_say source (Err fault) 1 [] (lines_of text) (gives other)
+
+-- a text has one fault, or says calls
+pub one_calls_fault : (source : Module) (text : List ℕ) (a b : CallsFault) → IsCallsFault source text a → IsCallsFault source text b → a ≡ b
+one_calls_fault source text a b is_a is_b = let same = one_outcome source text (Err a) (Err b) is_a is_b in cc
+
+pub no_calls_fault : (source : Module) (text : List ℕ) (calls : List Call) (fault : CallsFault) → IsCallsFile source text calls → IsCallsFault source text fault → ⊥
+no_calls_fault source text calls fault is at_fault = let same = one_outcome source text (Ok calls) (Err fault) is at_fault in cc

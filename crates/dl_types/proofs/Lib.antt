@@ -1,3 +1,4 @@
+-- The lemmas of this crate.
 pub mod Answered
 pub mod Bodies
 pub mod Checking
@@ -7,3 +8,8 @@ pub mod ModulesFit
 pub mod OperationsFit
 pub mod Rows
 pub mod StatementsFit
+pub mod DeclarationLaws
+pub mod OperandLaws
+pub mod SimpleLaws
+pub mod StatementLaws
+pub mod TreeLaws

@@ -26,6 +26,7 @@ use Rattle.dl_types.specs.Names.{kind_named, tree_kind_named, field_named}
 use Rattle.dl_types.specs.Declarations.{type_of, field_typed, kind_typed}
 use Rattle.dl_types.specs.Typing.{op_typed, typed}
 use Rattle.dl_types.specs.Limits.{TypedIsChecked}
+use Rattle.dl_types.proofs.TreeLaws.{is_tree}
 use Rattle.dl_types.proofs.Checking.{bind_ok, unless_ok, where_ok, same_ok, each_all, each_map, each_length}
 use Rattle.dl_types.proofs.Found.{Found, first_found}
 use Rattle.dl_types.proofs.OperationsFit.{nothing_asked, all_at, some_of, type_refers, not_false, operation_fits}
@@ -143,8 +144,8 @@ module _ (kinds : List TreeKind) where
       let one = all_at IsField has.declared.fields f has.field (all_at HasFields source.kinds kind has.declared all has.is_there) has.is_its_field in
       node_there source e target (subst IsFieldType has.of_type one)
 
-pub typed_is_checked : TypedIsChecked
-typed_is_checked tree source limits e =
+given_is_checked : (tree : Tree) (source : Module) → IsInLimits tree → typed tree ≡ Ok source → IsChecked source
+given_is_checked tree source limits e =
     let kinds = bind_ok (each (kind_typed tree.kinds) [] tree.kinds) _ source e in
     let ops = bind_ok (each (op_typed kinds.0) [] tree.ops) _ source kinds.2 in
     let rooted = where_ok (list_any is_root kinds.0) (NoRoots tree.last) _ source ops.2 in
@@ -167,7 +168,10 @@ typed_is_checked tree source limits e =
       ops = each_all (IsOperation answer) IsOpInLimits (op_typed kinds.0) (operation_fits answer) [] tree.ops ops.0 (All-nil (IsOperation answer)) (recursion_from_All IsOpInLimits tree.ops limits.ops) ops.1;
     })
 
+pub typed_is_checked : TypedIsChecked
+typed_is_checked tree source limits is = given_is_checked tree source limits (is_tree tree (Ok source) is)
+
 -- what is answered is checked
 pub gives_checked : (tree : Tree) (result : Result Module TypeFault) → IsInLimits tree → Gives (typed tree) result → IfOk result IsChecked
-gives_checked tree (Ok source) limits gives = typed_is_checked tree source limits gives
+gives_checked tree (Ok source) limits gives = given_is_checked tree source limits gives
 gives_checked tree (Err fault) limits gives = tt

@@ -28,7 +28,7 @@ use Rattle.dl_types.specs.declared.operands.Given.{Given}
 use Rattle.dl_types.specs.declared.operands.Given.TheVariants as given
 use Rattle.dl_types.specs.Checks.{or_fault, each}
 use Rattle.dl_types.specs.Names.{is_root_kind}
-use Rattle.dl_types.specs.Statements.{is_null, is_new_root, refers_to_root, field_assigned, number_assigned, null_assigned, assigned, assign_typed, rhs_given, local_typed, stored_as, stored, store_typed, place_given, side_given, sameness, refs_compared, refs_related, compared, cond_typed, number_typed, return_typed, Typed, in_turn, what_step, stmt_typed, block_typed}
+use Rattle.dl_types.specs.Statements.{is_null, is_new_root, refers_to_root, field_assigned, number_assigned, null_assigned, assigned, assign_typed, rhs_given, local_typed, stored_as, stored, store_typed, place_given, side_given, sameness, refs_compared, refs_related, compared, cond_typed, number_typed, return_typed, emit_typed, Typed, in_turn, what_step, stmt_typed, block_typed}
 use Rattle.dl_types.proofs.Checking.{bind_ok, unless_ok, where_some, fault_or_some, same_ok, and_true}
 use Rattle.dl_types.proofs.Found.{types_in}
 use Rattle.dl_types.proofs.Givens.{IsKindThere, node_kind, word_found, expression_fits, IsRight, side_right, place_right, right_side_right}
@@ -152,6 +152,13 @@ module _ (params vars : List LocalDecl) (source : Module) where
       let is = fault_or_some number.0 (KindClash line) value.0 value.1 in
       subst Fit (same_ok _ s value.2) (typed.return (expression_fits params vars x value.0 (number.1 ∙ ap (λ o. Ok o) is)))
 
+  emit_fits : (line : ℕ) (x : TreeExpr) (s : Stmt) → emit_typed params vars line x ≡ Ok s → Fit s
+  emit_fits line x s e =
+      let number = bind_ok (number_typed params vars x) _ s e in
+      let value = bind_ok (or_fault number.0 (KindClash line)) _ s number.2 in
+      let is = fault_or_some number.0 (KindClash line) value.0 value.1 in
+      subst Fit (same_ok _ s value.2) (typed.emit (expression_fits params vars x value.0 (number.1 ∙ ap (λ o. Ok o) is)))
+
   -- ---- statements and blocks
   abbrev what_typed : What → ℕ → Typed
   what_typed = fold-What (ℕ → Typed) Typed (what_step source.kinds params vars) (λ (s : TreeStmt-F (ℕ → Typed) Typed). s.what s.line)
@@ -184,6 +191,7 @@ module _ (params vars : List LocalDecl) (source : Module) where
       let block = bind_ok (in_turn (map (stmt_typed source.kinds params vars) (map (λ p. p.0) body))) _ s test.2 in
       subst Fit (same_ok _ s block.2) (typed.while (condition_fits line c test.0 test.1) (block_from body [] block.0 typed.nothing block.1))
   level_fits (What-F.Return x) line s there e = return_fits line x s e
+  level_fits (What-F.Emit x) line s there e = emit_fits line x s e
 
   abbrev in_line : TreeStmt-F (ℕ → Typed) Typed → Typed
   in_line s = s.what s.line

@@ -6,7 +6,7 @@ use Rattle.dl_ir.specs.Checked.{IsChecked}
 use Rattle.dl_grammar.specs.declared.tree.Tree.{Tree}
 use Rattle.dl_grammar.specs.declared.tree.TreeKind.{TreeKind}
 use Rattle.dl_grammar.specs.Limits.{IsInLimits, IsOpInLimits}
-use Rattle.dl_types.specs.Typing.{Types}
+use Rattle.dl_types.specs.Rules.{Types}
 
 -- a root kind has a root
 abbrev pub HasSomeRoot : TreeKind → Type 0

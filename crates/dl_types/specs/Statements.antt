@@ -221,6 +221,10 @@ cond_typed params vars line c =
 abbrev pub return_typed : List LocalDecl → List LocalDecl → ℕ → TreeExpr → Result Stmt TypeFault
 return_typed params vars line e = number_typed params vars e >>= λ number. or_fault number (KindClash line) >>= λ value. Ok (stmt.Return value)
 
+-- a number is emitted
+abbrev pub emit_typed : List LocalDecl → List LocalDecl → ℕ → TreeExpr → Result Stmt TypeFault
+emit_typed params vars line e = number_typed params vars e >>= λ number. or_fault number (KindClash line) >>= λ value. Ok (stmt.Emit value)
+
 -- what a statement of a tree is
 abbrev pub Typed : Type 0
 Typed = Result Stmt TypeFault
@@ -238,6 +242,7 @@ what_step kinds params vars (What-F.If c yes_block no_block) line =
 what_step kinds params vars (What-F.While c body) line =
     cond_typed params vars line c >>= λ test. in_turn body >>= λ block. Ok (stmt.While test block)
 what_step kinds params vars (What-F.Return e) line = return_typed params vars line e
+what_step kinds params vars (What-F.Emit e) line = emit_typed params vars line e
 
 -- a statement
 abbrev pub stmt_typed : List KindDecl → List LocalDecl → List LocalDecl → TreeStmt → Typed

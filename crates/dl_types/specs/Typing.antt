@@ -1,5 +1,5 @@
--- Which module a tree is, or the first fault that it has in the order of the text.
-use Rattle.std.specs.Prelude.{◌≡◌, if◌then◌else◌, List, [], Result, Ok, Err}
+-- Which module a tree is as a function of it, in the order in which the checker goes through it, or its first fault. `Rules` has the same as rules.
+use Rattle.std.specs.Prelude.{if◌then◌else◌, List, [], Result, Ok, Err}
 use Rattle.std.specs.List.{list_any}
 use Rattle.dl_ir.specs.declared.modules.KindDecl.{KindDecl}
 use Rattle.dl_ir.specs.declared.modules.LocalDecl.{LocalDecl}
@@ -37,11 +37,3 @@ abbrev pub typed : Tree → Result Module TypeFault
 typed tree =
     each (kind_typed tree.kinds) [] tree.kinds >>= λ kinds. each (op_typed kinds) [] tree.ops >>= λ ops.
     if list_any is_root kinds then Ok (record { version = tree.version; kinds = kinds; ops = ops }) else Err (NoRoots tree.last)
-
--- the tree is this module
-abbrev pub Types : Tree → Module → Type 0
-Types tree source = typed tree ≡ Ok source
-
--- the tree is no module, and this is its first fault
-abbrev pub IsTypeFault : Tree → TypeFault → Type 0
-IsTypeFault tree fault = typed tree ≡ Err fault

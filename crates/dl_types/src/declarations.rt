@@ -1,3 +1,5 @@
+//! What kinds, fields, parameters and vars declare, or the first fault in them.
+
 ghost use Rattle.std.specs.Prelude.{◌≡◌, ◌+◌, ◌<◌, ◌≤◌, ◌^◌, length, [], sum_by, codes, IfOk, All};
 ghost use Rattle.std.specs.List.{AllByRecursion, list_any};
 ghost use Rattle.std.specs.Str.{bytes_eq};

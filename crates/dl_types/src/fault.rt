@@ -1,3 +1,5 @@
+//! The faults of names and types.
+
 use std::alloc::AllocError;
 use thiserror::Error;
 

@@ -1,3 +1,5 @@
+//! The module that a tree is, or its first fault: operations one behind another.
+
 ghost use Rattle.std.specs.Prelude.{◌≡◌, ◌≢◌, ◌+◌, ◌<◌, ◌≤◌, ◌^◌, length, [], All, IfOk, IfErr, MatchResult};
 ghost use Rattle.std.specs.List.{AllByRecursion, list_any};
 ghost use Rattle.dl_ir.specs.declared.modules.KindDecl.{KindDecl as Kind};
@@ -8,8 +10,8 @@ ghost use Rattle.dl_types.specs.Checks.{Gives, each};
 ghost use Rattle.dl_grammar.specs.Limits.{IsInLimits, IsOpInLimits};
 ghost use Rattle.dl_types.specs.Limits.{IsBounded, TypedIsChecked};
 ghost use Rattle.dl_types.specs.Statements.{block_typed};
+ghost use Rattle.dl_types.specs.Rules.{Types, IsTypeFault};
 ghost use Rattle.dl_types.specs.Typing as spec;
-ghost use Rattle.dl_types.specs.Typing.{Types, IsTypeFault};
 
 use crate::declarations::{has_root, kinds_typed, params_typed, text_of, vars_typed};
 use crate::fault::TypeFault;

@@ -1,3 +1,5 @@
+//! What a name stands for: the first declaration of it in its name space.
+
 ghost use Rattle.std.specs.Prelude.{◌≡◌, ◌+◌, ◌<◌, ◌≤◌, ◌^◌, length};
 ghost use Rattle.dl_types.specs.Names.{field_named, local_named, kind_named, tree_kind_named, has_op, local_of};
 

@@ -1,3 +1,5 @@
+//! What expressions, fields and sides of conditions are, before it is known whether they fit.
+
 ghost use Rattle.std.specs.Prelude.{◌≡◌, ◌+◌, ◌<◌, ◌≤◌, ◌^◌, length, All};
 ghost use Rattle.dl_ir.specs.declared.modules.KindDecl.{KindDecl as Kind};
 ghost use Rattle.dl_types.specs.Checks.{Gives};

@@ -1,3 +1,5 @@
+//! What statements are, or the first fault in them.
+
 ghost use Rattle.std.specs.Prelude.{◌≡◌, map};
 ghost use Rattle.dl_types.specs.Checks.{Gives};
 ghost use Rattle.dl_types.specs.Names.{is_root_kind};
@@ -98,6 +100,16 @@ impl Scope<'_> {
         }
     }
 
+    fn emit_typed(&self, alloc: Global, line: u32, e: &TreeExpr) -> Result<Stmt, TypeFault>
+        ensures { Gives (spec.emit_typed self.now.params.now self.now.vars.now line e.now) result }
+    {
+        let number = self.numbers(alloc, e)?;
+        match number {
+            Some(e) => Ok(Stmt::Emit { e }),
+            None => Err(TypeFault::KindClash { line }),
+        }
+    }
+
     /// A statement, with the statements in it.
     #[cycle(statements)]
     pub fn stmt_typed(&self, alloc: Global, s: &TreeStmt) -> Result<Stmt, TypeFault>
@@ -119,6 +131,7 @@ impl Scope<'_> {
                 Ok(Stmt::While { c, body })
             }
             What::Return { e } => self.return_typed(alloc, line, e),
+            What::Emit { e } => self.emit_typed(alloc, line, e),
         }
     }
 

@@ -1,3 +1,5 @@
+//! Tests of the faults of names and types.
+
 use crate::{TypeFault, check};
 use dl_grammar::read_module;
 use dl_ir::{Module, Stmt, Ty};

@@ -1,7 +1,8 @@
+-- How a call ends, clause by clause.
 use Rattle.std.proofs.Common.{◌≡◌, ◌≢◌, ℕ, ◌+◌, ◌<◌, ◌≤◌, List, [], Some, None, refl, sym, ◌∙◌, ap, subst, arith}
 use Rattle.dl_io.specs.Source.{Source}
 use Rattle.dl_io.specs.Taken.{Taken, Took}
-use Rattle.dl_ir.specs.declared.answers.Entry.{Entry}
+use Rattle.dl_history.specs.Histories.{Seen}
 use Rattle.dl_ir.specs.declared.answers.Refusal.{Refusal}
 use Rattle.dl_ir.specs.declared.modules.Module.{Module}
 use Rattle.dl_ir.specs.declared.calls.Call.{Call}
@@ -9,7 +10,7 @@ use Rattle.dl_grammar.specs.declared.tree.Tree.{Tree}
 use Rattle.domlock.specs.declared.status.Status.{Status}
 use Rattle.domlock.specs.declared.status.Status.TheVariants as statuses
 use Rattle.domlock.specs.Causes.{NoModule, NoCalls, Refuses, Cut}
-use Rattle.domlock.specs.Promise.{Ran, Finishes, Ends, Prints}
+use Rattle.domlock.specs.Promise.{Ran, Finishes, Ends, Prints, nothing_done}
 use Rattle.domlock.specs.Reading.{ReadCause, IsWithin}
 use Rattle.domlock.specs.Texts.{Spells}
 use Rattle.domlock.specs.Words.{Text, Task, limit_of, task_of_words}
@@ -117,7 +118,7 @@ refused_most {new = new} file (Refuses.no_calls tree source before at path sourc
 refused_most {new = new} file (Refuses.no_memory e within) is = within_most new file within is
 
 -- a call of which the files were read ends as its command finishes
-pub ends_finished : {words : List Text} {old new : Source} {before after : Taken} {status : Status} {history : List Entry} {refusals : List Refusal}
+pub ends_finished : {words : List Text} {old new : Source} {before after : Taken} {status : Status} {history : Seen} {refusals : List Refusal}
     (task : Task) {tree : Tree} {source : Module} {all : List (List Call)} → task_of_words words ≡ Some task → Spells old task tree source all → IsWithin new →
     Finishes task.verb tree source all task.places before after status history refusals → Ends words old new before after status history refusals
 ends_finished task is_task spells within (Finishes.no_memory is same_taken no_history no_refusals) =
@@ -126,7 +127,7 @@ ends_finished task {tree = tree} {source = source} {all = all} is_task spells wi
     Ends.ran text (record { task = task; is_task = is_task; tree = tree; source = source; all = all; spells = spells; writes = writes }) within prints
 
 -- the clauses of a call that ends so
-module _ {words : List Text} {old new : Source} {before after : Taken} {status : Status} {history : List Entry} {refusals : List Refusal} where
+module _ {words : List Text} {old new : Source} {before after : Taken} {status : Status} {history : Seen} {refusals : List Refusal} where
   pub ends_done : Ends words old new before after status history refusals → status ≡ statuses.Done →
       (text : Text) × Ran words old history refusals text × Took before.written after.written text
   ends_done (Ends.usage is none same same_taken no_history no_refusals) done = let e : statuses.Usage ≡ statuses.Done = sym is ∙ done in absurd (cc)
@@ -140,7 +141,7 @@ module _ {words : List Text} {old new : Source} {before after : Taken} {status :
   ends_cut (Ends.ran text ran within prints) fault = (text, ran, subst (λ s. Prints s text before after) fault prints)
 
   pub ends_nothing : Ends words old new before after status history refusals → status ≢ statuses.Done → status ≢ statuses.WriteFault →
-      (after ≡ before) × (history ≡ []) × (refusals ≡ [])
+      (after ≡ before) × (history ≡ nothing_done) × (refusals ≡ [])
   ends_nothing (Ends.usage is none same same_taken no_history no_refusals) no_done no_fault = (same_taken, no_history, no_refusals)
   ends_nothing (Ends.refused task is_task cause same_taken no_history no_refusals) no_done no_fault = (same_taken, no_history, no_refusals)
   ends_nothing (Ends.ran text ran within prints) no_done no_fault = printed status text before after prints no_done no_fault
@@ -161,16 +162,14 @@ module _ {words : List Text} {old new : Source} {before after : Taken} {status :
   ends_cause (Ends.refused task is_task cause same_taken no_history no_refusals) no_done no_fault no_usage = (task, is_task, cause)
   ends_cause (Ends.ran text ran within prints) no_done no_fault no_usage = printed status text before after prints no_done no_fault
 
-  pub ends_long : Ends words old new before after status history refusals → old.given ≡ 0 → (file : ℕ) → new.attached ≡ Some file →
-      limit_of file < new.given → status ≡ statuses.TooLong file
-  ends_long (Ends.usage is none same same_taken no_history no_refusals) begins file attached more =
-      let e = ap (λ (s : Source). s.given) same in absurd (omega (arith, e, begins, more))
-  ends_long (Ends.refused task is_task cause same_taken no_history no_refusals) begins file attached more = refused_long file cause attached more
-  ends_long (Ends.ran text ran within prints) begins file attached more = within_long new file within attached more
+  pub ends_long : Ends words old new before after status history refusals → (task : Task) → task_of_words words ≡ Some task → (file : ℕ) →
+      new.attached ≡ Some file → limit_of file < new.given → status ≡ statuses.TooLong file
+  ends_long (Ends.usage is none same same_taken no_history no_refusals) task is_task file attached more = absurd (cc)
+  ends_long (Ends.refused found is_found cause same_taken no_history no_refusals) task is_task file attached more = refused_long file cause attached more
+  ends_long (Ends.ran text ran within prints) task is_task file attached more = within_long new file within attached more
 
-  pub ends_most : Ends words old new before after status history refusals → old.given ≡ 0 → (file : ℕ) → new.attached ≡ Some file →
-      new.given ≤ limit_of file + 1
-  ends_most (Ends.usage is none same same_taken no_history no_refusals) begins file attached =
-      let e = ap (λ (s : Source). s.given) same in omega (arith, e, begins)
-  ends_most (Ends.refused task is_task cause same_taken no_history no_refusals) begins file attached = refused_most file cause attached
-  ends_most (Ends.ran text ran within prints) begins file attached = within_most new file within attached
+  pub ends_most : Ends words old new before after status history refusals → (task : Task) → task_of_words words ≡ Some task → (file : ℕ) →
+      new.attached ≡ Some file → new.given ≤ limit_of file + 1
+  ends_most (Ends.usage is none same same_taken no_history no_refusals) task is_task file attached = absurd (cc)
+  ends_most (Ends.refused found is_found cause same_taken no_history no_refusals) task is_task file attached = refused_most file cause attached
+  ends_most (Ends.ran text ran within prints) task is_task file attached = within_most new file within attached

@@ -1,15 +1,17 @@
 -- A text is one module, or has one fault.
-use Rattle.std.proofs.Common.{◌≡◌, ℕ, List, Result, Ok, Err, refl, sym, ◌∙◌, ap}
+use Rattle.std.proofs.Common.{◌≡◌, ℕ, List, Result, Ok, Err, refl, sym, ◌∙◌, ap, subst}
 use Rattle.dl_ir.specs.declared.modules.Module.{Module}
 use Rattle.dl_ir.specs.declared.calls.Call.{Call}
 use Rattle.dl_grammar.specs.Texts.{IsSyntaxFault}
 use Rattle.dl_grammar.specs.declared.fault.SyntaxFault.{SyntaxFault}
 use Rattle.dl_grammar.specs.declared.fault.SyntaxFault.TheVariants as syntax
 use Rattle.dl_grammar.proofs.Whole.{one_tree, one_syntax_fault, tree_or_fault}
-use Rattle.dl_types.specs.Typing.{typed}
+use Rattle.dl_types.specs.Rules.{IsTree}
+use Rattle.dl_types.proofs.TreeLaws.{one_outcome}
 use Rattle.dl_types.specs.declared.fault.TypeFault.{TypeFault}
 use Rattle.dl_types.specs.declared.fault.TypeFault.TheVariants as types
-use Rattle.dl_syntax.specs.Calls.{IsCallsFile}
+use Rattle.dl_syntax.specs.Rules.{IsCallsFile}
+use Rattle.dl_syntax.proofs.RuleLaws.{one_calls_fault, no_calls_fault}
 use Rattle.dl_syntax.specs.declared.calls.CallsFault.{CallsFault}
 use Rattle.dl_syntax.specs.declared.calls.CallsFault.TheVariants as faults
 use Rattle.domlock.specs.declared.status.Status.{Status}
@@ -42,27 +44,27 @@ view text line modules.NewRoot is = Fault.of_tree (types.NewRoot line) is refl
 view text line modules.AssignRoot is = Fault.of_tree (types.AssignRoot line) is refl
 view text line modules.NoRoots is = Fault.of_tree (types.NoRoots line) is refl
 
-one_ok : {E : Type 0} {T : Type 0} (r : Result T E) (a b : T) → r ≡ Ok a → r ≡ Ok b → a ≡ b
-one_ok r a b at_a at_b = cc
+one_ok : {E : Type 0} {T : Type 0} {a b : T} → ◌≡◌ {A = Result T E} (Ok a) (Ok b) → a ≡ b
+one_ok same = cc
 
-one_err : {E : Type 0} {T : Type 0} (r : Result T E) (a b : E) → r ≡ Err a → r ≡ Err b → a ≡ b
-one_err r a b at_a at_b = cc
+one_err : {E : Type 0} {T : Type 0} {a b : E} → ◌≡◌ {A = Result T E} (Err a) (Err b) → a ≡ b
+one_err same = cc
 
-ok_or_err : {P E : Type 0} {T : Type 0} (r : Result T E) (a : T) (b : E) → r ≡ Ok a → r ≡ Err b → P
-ok_or_err r a b at_a at_b = cc
+ok_or_err : {P E : Type 0} {T : Type 0} {a : T} {b : E} → ◌≡◌ {A = Result T E} (Ok a) (Err b) → P
+ok_or_err same = absurd (cc)
 
 -- a text is one module
 pub one_source : (text : Text) (a b : Module) → IsModuleText text a → IsModuleText text b → a ≡ b
 one_source text a b is_a is_b =
     let tree = one_tree text is_a.tree is_b.tree is_a.spelled is_b.spelled in
-    one_ok (typed is_b.tree) a b (sym (ap typed tree) ∙ is_a.typed) is_b.typed
+    one_ok (one_outcome is_b.tree (Ok a) (Ok b) (subst (λ t. IsTree t (Ok a)) tree is_a.typed) is_b.typed)
 
 -- a module has no fault
 clash : {P : Type 0} (text : Text) (source : Module) (answer : Status) → IsModuleText text source → Fault text answer → P
 clash text source answer is (Fault.of_tokens fault at_fault is_answer) = absurd (tree_or_fault text is.tree fault is.spelled at_fault)
 clash text source answer is (Fault.of_tree fault at_fault is_answer) =
     let tree = one_tree text is.tree at_fault.tree is.spelled at_fault.spelled in
-    ok_or_err (typed at_fault.tree) source fault (sym (ap typed tree) ∙ is.typed) at_fault.at_fault
+    ok_or_err (one_outcome at_fault.tree (Ok source) (Err fault) (subst (λ t. IsTree t (Ok source)) tree is.typed) at_fault.at_fault)
 
 pub module_or_fault : {P : Type 0} (text : Text) (source : Module) (line : ℕ) (why : ModuleWhy) → IsModuleText text source → IsModuleFault text line why → P
 module_or_fault text source line why is fault = clash text source _ is (view text line why fault)
@@ -75,7 +77,7 @@ same_answer text a b (Fault.of_tokens f at_f is_a) (Fault.of_tree g at_g is_b) =
 same_answer text a b (Fault.of_tree f at_f is_a) (Fault.of_tokens g at_g is_b) = absurd (tree_or_fault text at_f.tree g at_f.spelled at_g)
 same_answer text a b (Fault.of_tree f at_f is_a) (Fault.of_tree g at_g is_b) =
     let tree = one_tree text at_f.tree at_g.tree at_f.spelled at_g.spelled in
-    sym is_a ∙ ap type_status (one_err (typed at_g.tree) f g (sym (ap typed tree) ∙ at_f.at_fault) at_g.at_fault) ∙ is_b
+    sym is_a ∙ ap type_status (one_err (one_outcome at_g.tree (Err f) (Err g) (subst (λ t. IsTree t (Err f)) tree at_f.at_fault) at_g.at_fault)) ∙ is_b
 
 pub one_module_fault : (text : Text) (line other : ℕ) (why otherwise : ModuleWhy) → IsModuleFault text line why → IsModuleFault text other otherwise →
     statuses.ModuleFault line why ≡ statuses.ModuleFault other otherwise
@@ -105,9 +107,9 @@ named file line whys.NoRoot = refl
 pub one_ops_fault : (source : Module) (text : Text) (file line other : ℕ) (why otherwise : OpsWhy) → IsOpsFault source text line why →
     IsOpsFault source text other otherwise → statuses.OpsFault file line why ≡ statuses.OpsFault file other otherwise
 one_ops_fault source text file line other why otherwise is is_other =
-    sym (named file line why) ∙ ap (ops_status file) (one_err _ (calls_fault line why) (calls_fault other otherwise) is is_other) ∙ named file other otherwise
+    sym (named file line why) ∙ ap (ops_status file) (one_calls_fault source text (calls_fault line why) (calls_fault other otherwise) is is_other) ∙ named file other otherwise
 
 -- and has none where it says calls
 pub calls_or_fault : {P : Type 0} (source : Module) (text : Text) (calls : List Call) (line : ℕ) (why : OpsWhy) → IsCallsFile source text calls →
     IsOpsFault source text line why → P
-calls_or_fault source text calls line why is fault = ok_or_err _ calls (calls_fault line why) is fault
+calls_or_fault source text calls line why is fault = absurd (no_calls_fault source text calls (calls_fault line why) is fault)

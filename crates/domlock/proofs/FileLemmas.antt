@@ -1,3 +1,4 @@
+-- Files that are read one after another.
 use Rattle.std.proofs.Common.{◌≡◌, ℕ, ◌+◌, ◌<◌, List, [], ◌∷◌, ◌++◌, Option, Some, take, length, refl, sym, ◌∙◌, ap, subst, get_or, Global, add-one}
 use Rattle.std.specs.Prelude.{All, slice_get, IfSome, Contains, map, option_map, string_bytes, String}
 use Rattle.std.specs.List.{take-map}

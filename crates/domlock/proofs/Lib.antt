@@ -1,3 +1,4 @@
+-- The lemmas of the program.
 mod EndLemmas
 mod FileLemmas
 mod LoadingLemmas

@@ -1,3 +1,4 @@
+-- The causes of statuses that faults of texts are answered with.
 use Rattle.std.proofs.Common.{◌≢◌, ◌≤◌, ℕ, List, length, Result, Ok, Err, IfErr, refl, sym, ◌∙◌, subst}
 use Rattle.dl_io.specs.Source.{Source, Tells}
 use Rattle.dl_ir.specs.declared.modules.Module.{Module}
@@ -6,11 +7,11 @@ use Rattle.dl_grammar.specs.Texts.{Spells, IsSyntaxFault}
 use Rattle.dl_grammar.specs.declared.tree.Tree.{Tree}
 use Rattle.dl_grammar.specs.declared.fault.SyntaxFault.{SyntaxFault}
 use Rattle.dl_grammar.specs.declared.fault.SyntaxFault.TheVariants as syntax
-use Rattle.dl_types.specs.Typing.{IsTypeFault}
+use Rattle.dl_types.specs.Rules.{IsTypeFault}
 use Rattle.dl_types.specs.declared.fault.TypeFault.{TypeFault}
 use Rattle.dl_types.specs.declared.fault.TypeFault.TheVariants as types
 use Rattle.domlock.specs.declared.status.ModuleWhy.TheVariants as whys
-use Rattle.dl_syntax.specs.Calls.{IsCallsFault}
+use Rattle.dl_syntax.specs.Rules.{IsCallsFault}
 use Rattle.dl_syntax.specs.declared.calls.CallsFault.{CallsFault}
 use Rattle.dl_syntax.specs.declared.calls.CallsFault.TheVariants as faults
 use Rattle.domlock.specs.declared.status.Status.{Status}

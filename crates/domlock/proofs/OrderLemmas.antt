@@ -7,7 +7,7 @@ use Rattle.dl_closed.proofs.Histories.{all_at}
 use Rattle.dl_io.specs.Faults.{Rose}
 use Rattle.dl_io.specs.Source.{Source}
 use Rattle.dl_io.specs.Taken.{Taken}
-use Rattle.dl_ir.specs.declared.answers.Entry.{Entry}
+use Rattle.dl_history.specs.Histories.{Seen}
 use Rattle.dl_ir.specs.declared.answers.Refusal.{Refusal}
 use Rattle.dl_ir.specs.declared.modules.Module.{Module}
 use Rattle.dl_ir.specs.declared.calls.Call.{Call}
@@ -125,7 +125,7 @@ printed_whole (statuses.ModuleFault line why) text before after prints works = a
 printed_whole (statuses.OpsFault file line why) text before after prints works = absurd prints
 printed_whole statuses.Memory text before after prints works = absurd prints
 
-module _ {words : List Text} {old new : Source} {before after : Taken} {status : Status} {history : List Entry} {refusals : List Refusal} where
+module _ {words : List Text} {old new : Source} {before after : Taken} {status : Status} {history : Seen} {refusals : List Refusal} where
   pub ends_as_told : Ends words old new before after status history refusals → (task : Task) → task_of_words words ≡ Some task → EndsAsTold old task status
   ends_as_told (Ends.usage is none same same_taken no_history no_refusals) task is_task file answer calls = absurd (cc)
   ends_as_told (Ends.refused found is_found cause same_taken no_history no_refusals) task is_task file answer calls =

@@ -1,3 +1,4 @@
+-- The words of a command, one after another.
 use Rattle.std.proofs.Common.{◌≡◌, ◌-◌, ◌≤◌, true, false, List, [], ◌∷◌, length, take, drop, get_or, refl, subst, arith, Global}
 use Rattle.std.specs.Prelude.{map, string_bytes, String, bytes_eq, codes}
 use Rattle.std.proofs.lemmas.List.{take_all}

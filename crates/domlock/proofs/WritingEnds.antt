@@ -1,3 +1,4 @@
+-- What a sink has taken when writing ends.
 use Rattle.std.proofs.Common.{◌≡◌, ℕ, List, [], ◌++◌, subst, sym, ◌∙◌, ap}
 use Rattle.std.proofs.lemmas.List.{append-nil}
 use Rattle.dl_io.specs.Taken.{Taken, Took}

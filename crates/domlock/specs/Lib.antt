@@ -1,3 +1,4 @@
+-- What the contracts of the program speak of.
 pub mod Words
 pub mod Reading
 pub mod Status

@@ -1,3 +1,4 @@
+-- The statuses of faults, and why reading the files of a command stops.
 use Rattle.std.specs.Prelude.{◌≡◌, ℕ, ◌+◌, List, Some, slice_get, take}
 use Rattle.dl_io.specs.Source.{Source}
 use Rattle.dl_ir.specs.declared.modules.Module.{Module}

@@ -1,4 +1,5 @@
-use Rattle.std.specs.Prelude.{◌≡◌, ℕ, List, [], ◌++◌, Some, None, All}
+-- What the program promises of a call: what it writes where all goes well, and how it ends else.
+use Rattle.std.specs.Prelude.{◌≡◌, ◌<◌, ◌≤◌, ◌⊎◌, ℕ, List, [], ◌++◌, Some, None, All, AllPairs}
 use Rattle.dl_io.specs.Source.{Source}
 use Rattle.dl_io.specs.Taken.{Taken, Took}
 use Rattle.dl_ir.specs.declared.modules.Module.{Module}
@@ -8,9 +9,10 @@ use Rattle.dl_ir.specs.declared.answers.Refusal.{Refusal}
 use Rattle.dl_ir.specs.Cover.{Covers}
 use Rattle.dl_ir.specs.Heap.{start_objects}
 use Rattle.dl_shape.specs.Closed.{IsForestClosed}
-use Rattle.dl_shape.specs.Pool.{IsLawfulPool}
+use Rattle.dl_shape.specs.Pool.{IsLawfulPool, HasVersionsOfMovesAlone, moves_of, in_rising_versions}
 use Rattle.dl_shape.specs.Replay.{IsLegal, replayed}
 use Rattle.dl_closed.specs.Unsealed.{IsUnsealed}
+use Rattle.dl_history.specs.Histories.{Seen}
 use Rattle.dl_history.specs.Report.{report}
 use Rattle.dl_grammar.specs.declared.tree.Tree.{Tree}
 use Rattle.dl_print.specs.Canonical.{canonical}
@@ -25,14 +27,26 @@ use Rattle.domlock.specs.Words.{Text, Task, task_of_words}
 use Rattle.domlock.specs.declared.words.Verb.{Verb}
 use Rattle.domlock.specs.declared.words.Verb.TheVariants as verbs
 
+-- the refusals stand by caller, and those of a caller by index
+abbrev pub AreInOrder : List Refusal → Type 0
+AreInOrder refusals = AllPairs (λ (earlier later : Refusal). (earlier.caller < later.caller) ⊎ ((earlier.caller ≡ later.caller) × (earlier.index ≤ later.index))) refusals
+
 -- what running the calls of a module came to, from its start heap and with so many places: each operation stands once, in
--- the history or among the refusals; every answer is that of the serial meaning; the pool is lawful; and where every serial
--- run ends each operation in a forest, no answer tells of a sealed object
-pub record IsRun (source : Module) (all : List (List Call)) (places : ℕ) (history : List Entry) (refusals : List Refusal) : Type 0 where
-  pub covers : Covers all history refusals
-  pub legal : IsLegal source all (start_objects source) history
-  pub lawful : IsLawfulPool places source all (start_objects source) history refusals
-  pub unsealed : IsForestClosed source (start_objects source) → All (λ (entry : Entry). IsUnsealed entry.answer) history
+-- the history or among the refusals; every answer is that of the serial meaning; the pool is lawful, its moves are those that the entries
+-- give, and an entry has no version but those of its moves; and where every serial run ends each operation in a forest, no answer tells
+-- of a sealed object
+pub record IsRun (source : Module) (all : List (List Call)) (places : ℕ) (history : Seen) (refusals : List Refusal) : Type 0 where
+  pub covers : Covers all history.entries refusals
+  pub in_order : AreInOrder refusals
+  pub legal : IsLegal source all (start_objects source) history.entries
+  pub lawful : IsLawfulPool places source all (start_objects source) history.entries refusals
+  pub moves : history.moves ≡ in_rising_versions (moves_of source all history.entries)
+  pub versions : All (HasVersionsOfMovesAlone source all) history.entries
+  pub unsealed : IsForestClosed source (start_objects source) → All (λ (entry : Entry). IsUnsealed entry.answer) history.entries
+
+-- the history of no operation
+abbrev pub nothing_done : Seen
+nothing_done = record { entries = []; moves = [] }
 
 -- the report of a run, with the heap that its history leads to
 abbrev pub report_of : Module → List (List Call) → List Entry → List Refusal → Text
@@ -40,15 +54,15 @@ report_of source all history refusals = report source all history refusals (repl
 
 -- what a command writes of a tree that is a module, and of calls of it: `serial` the report of a run of them, and `show`,
 -- which carries out nothing, the canonical text of the tree and the listing of the module's code
-abbrev pub Writes : Verb → Tree → Module → List (List Call) → ℕ → List Entry → List Refusal → Text → Type 0
+abbrev pub Writes : Verb → Tree → Module → List (List Call) → ℕ → Seen → List Refusal → Text → Type 0
 Writes verbs.Serial tree source all places history refusals text =
-    IsRun source all places history refusals × (text ≡ report_of source all history refusals)
+    IsRun source all places history refusals × (text ≡ report_of source all history.entries refusals)
 Writes verbs.Show tree source all places history refusals text =
-    (history ≡ []) × (refusals ≡ []) × (text ≡ canonical tree ++ listing (code source))
+    (history ≡ nothing_done) × (refusals ≡ []) × (text ≡ canonical tree ++ listing (code source))
 
 -- the words are a command whose files spell a tree that is a module, and its calls; the text is what the command writes of
 -- these, with this history and these refusals
-pub record Ran (words : List Text) (files : Source) (history : List Entry) (refusals : List Refusal) (text : Text) : Type 0 where
+pub record Ran (words : List Text) (files : Source) (history : Seen) (refusals : List Refusal) (text : Text) : Type 0 where
   pub task : Task
   pub is_task : task_of_words words ≡ Some task
   pub tree : Tree
@@ -69,18 +83,18 @@ Prints (statuses.OpsFault file line why) text old new = ⊥
 Prints statuses.Memory text old new = ⊥
 
 -- how a command ends once its files are read: memory runs out, or what it writes is written as far as the sink takes it
-pub data Finishes (verb : Verb) (tree : Tree) (source : Module) (all : List (List Call)) (places : ℕ) (taken_before taken_after : Taken) (status : Status) (history : List Entry) (refusals : List Refusal) : Type 0 where
-  no_memory : status ≡ statuses.Memory → taken_after ≡ taken_before → history ≡ [] → refusals ≡ []
+pub data Finishes (verb : Verb) (tree : Tree) (source : Module) (all : List (List Call)) (places : ℕ) (taken_before taken_after : Taken) (status : Status) (history : Seen) (refusals : List Refusal) : Type 0 where
+  no_memory : status ≡ statuses.Memory → taken_after ≡ taken_before → history ≡ nothing_done → refusals ≡ []
       → Finishes verb tree source all places taken_before taken_after status history refusals
   wrote : (text : Text) → Writes verb tree source all places history refusals text → Prints status text taken_before taken_after
       → Finishes verb tree source all places taken_before taken_after status history refusals
 
 -- how a call ends: the words are no command, or the files are refused, or memory runs out, or what the command writes is
 -- written as far as the sink takes it
-pub data Ends (words : List Text) (old new : Source) (taken_before taken_after : Taken) (status : Status) (history : List Entry) (refusals : List Refusal) : Type 0 where
-  usage : status ≡ statuses.Usage → task_of_words words ≡ None → new ≡ old → taken_after ≡ taken_before → history ≡ [] → refusals ≡ []
+pub data Ends (words : List Text) (old new : Source) (taken_before taken_after : Taken) (status : Status) (history : Seen) (refusals : List Refusal) : Type 0 where
+  usage : status ≡ statuses.Usage → task_of_words words ≡ None → new ≡ old → taken_after ≡ taken_before → history ≡ nothing_done → refusals ≡ []
       → Ends words old new taken_before taken_after status history refusals
-  refused : (task : Task) → task_of_words words ≡ Some task → Refuses task old new status → taken_after ≡ taken_before → history ≡ [] → refusals ≡ []
+  refused : (task : Task) → task_of_words words ≡ Some task → Refuses task old new status → taken_after ≡ taken_before → history ≡ nothing_done → refusals ≡ []
       → Ends words old new taken_before taken_after status history refusals
   ran : (text : Text) → Ran words old history refusals text → IsWithin new → Prints status text taken_before taken_after
       → Ends words old new taken_before taken_after status history refusals

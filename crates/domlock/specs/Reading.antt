@@ -1,3 +1,4 @@
+-- How reading a file ends.
 use Rattle.std.specs.Prelude.{◌≡◌, ◌+◌, ◌<◌, ◌≤◌, ℕ, Some, List, length, IfSome, Contains}
 use Rattle.dl_io.specs.Faults.{Rose}
 use Rattle.dl_io.specs.Source.{Source, SameFiles}

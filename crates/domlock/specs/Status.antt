@@ -1,3 +1,4 @@
+-- The line and the code of each status.
 use Rattle.std.specs.Prelude.{ℕ, ◌++◌, List, [], codes, decimal}
 use Rattle.dl_grammar.specs.declared.fault.Which.{Which}
 use Rattle.dl_grammar.specs.declared.fault.Which.TheVariants as limits

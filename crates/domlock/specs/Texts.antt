@@ -1,12 +1,13 @@
+-- What the files of a command spell, and the faults of texts that spell nothing.
 use Rattle.std.specs.Prelude.{ℕ, ◌≤◌, List, [], ◌∷◌, length}
 use Rattle.dl_io.specs.Source.{Source, Tells}
 use Rattle.dl_ir.specs.declared.modules.Module.{Module}
 use Rattle.dl_ir.specs.declared.calls.Call.{Call}
-use Rattle.dl_syntax.specs.Calls.{IsCallsFile, IsCallsFault}
+use Rattle.dl_syntax.specs.Rules.{IsCallsFile, IsCallsFault}
 use Rattle.dl_grammar.specs.Texts.{Spells as SpellsTree, IsSyntaxFault}
 use Rattle.dl_grammar.specs.declared.tree.Tree.{Tree}
 use Rattle.dl_grammar.specs.declared.fault.SyntaxFault.TheVariants as syntax
-use Rattle.dl_types.specs.Typing.{Types, IsTypeFault}
+use Rattle.dl_types.specs.Rules.{Types, IsTypeFault}
 use Rattle.dl_types.specs.declared.fault.TypeFault.{TypeFault}
 use Rattle.dl_types.specs.declared.fault.TypeFault.TheVariants as types
 use Rattle.dl_syntax.specs.declared.calls.CallsFault.{CallsFault}

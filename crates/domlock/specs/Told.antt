@@ -3,7 +3,7 @@ use Rattle.std.specs.Prelude.{◌≡◌, ℕ, ◌+◌, ◌<◌, ◌≤◌, List,
 use Rattle.dl_io.specs.Source.{Source}
 use Rattle.dl_ir.specs.declared.modules.Module.{Module}
 use Rattle.dl_ir.specs.declared.calls.Call.{Call}
-use Rattle.dl_syntax.specs.Calls.{IsCallsFile}
+use Rattle.dl_syntax.specs.Rules.{IsCallsFile}
 use Rattle.domlock.specs.declared.status.Status.{Status}
 use Rattle.domlock.specs.declared.status.Status.TheVariants as statuses
 use Rattle.domlock.specs.declared.status.ModuleWhy.{ModuleWhy}

@@ -1,3 +1,4 @@
+-- Which words are a command.
 use Rattle.std.specs.Prelude.{ℕ, ◌==◌, List, [], ◌∷◌, map, string_bytes, Option, Some, None, codes, bytes_eq, slice_get, if◌then◌else◌}
 use Rattle.std.specs.Option.{option_map}
 use Rattle.dl_syntax.specs.Line.{digits_of, at_most}

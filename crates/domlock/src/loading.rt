@@ -1,3 +1,5 @@
+//! Reading the files of a command: the module and its calls, or why they are refused.
+
 ghost use Rattle.std.specs.Prelude.{◌≡◌, ◌<◌, ◌≤◌, map, All, IfOk, IfErr, OnOk, length, string_bytes};
 ghost use Rattle.dl_ir.specs.CallForms.{AreCallsOf};
 ghost use Rattle.dl_ir.specs.Checked.{IsChecked};
@@ -6,8 +8,8 @@ ghost use Rattle.domlock.specs.Reading.{AfterReading, IsWithin};
 ghost use Rattle.domlock.specs.Texts.{IsModuleFile, IsFile, AreFiles, Spells};
 ghost use Rattle.domlock.specs.Words.{task_of};
 ghost use Rattle.dl_grammar.specs.Texts.{Spells as SpellsTree};
-ghost use Rattle.dl_syntax.specs.Calls.{IsCallsFile};
-ghost use Rattle.dl_types.specs.Typing.{Types};
+ghost use Rattle.dl_syntax.specs.Rules.{IsCallsFile};
+ghost use Rattle.dl_types.specs.Rules.{Types};
 ghost use Rattle.domlock.specs.Loading.{syntax_status, type_status, ParseCause, CallsCause, OpsCause, StopsAt};
 
 use crate::reading::read_file;

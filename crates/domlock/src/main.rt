@@ -2,6 +2,8 @@
 //! `docs/LANGUAGE.md` tells the files, and `docs/FORMATS.md` what is printed.
 #![tactic(auto)]
 
+#[cfg(test)]
+mod emit_tests;
 mod loading;
 mod reading;
 #[cfg(test)]

@@ -1,4 +1,4 @@
-// Whole runs: what `serial` prints of a module and its operations. The folder examples/ has the same texts.
+//! Whole runs: what `serial` prints of a module and its operations. The folder examples/ has the same texts.
 use crate::status::Status;
 use crate::tests::call;
 use dl_io::MemSink;

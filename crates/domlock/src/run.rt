@@ -1,3 +1,5 @@
+//! Running the calls of a command, and the report of it.
+
 ghost use Rattle.std.specs.Prelude.{◌≡◌, ◌≤◌, ◌<◌, ◌^◌, ◌+◌, ◌∷◌, [], All, IfOk, length};
 ghost use Rattle.dl_ir.specs.CallForms.{AreCallsOf};
 ghost use Rattle.dl_ir.specs.Checked.{IsChecked};
@@ -33,7 +35,7 @@ pub fn run_input(alloc: Global, input: &Input, places: u32) -> Result<Run, Alloc
     requires checked { IsChecked input.now.source }
     requires one { length input.now.all.items ≡ 1 }
     requires calls { All (AreCallsOf input.now.source) input.now.all.items }
-    ensures run { IfOk result (λ run. IsRun input.now.source input.now.all.items places run.history.entries run.refusals) }
+    ensures run { IfOk result (λ run. IsRun input.now.source input.now.all.items places run.history run.refusals) }
     ensures heap { IfOk result (λ run. run.closed.heap.objects ≡ replayed input.now.source input.now.all.items (start_objects input.now.source) run.history.entries) }
     ensures moves { IfOk result (λ run. run.history.moves ≡ in_rising_versions (moves_of input.now.source input.now.all.items run.history.entries)) }
     ensures refusals { IfOk result (λ run. (joined run.closed.refusals ≡ run.refusals) × AreByCaller run.closed.refusals) }

@@ -1,3 +1,5 @@
+//! What `show` writes.
+
 ghost use Rattle.std.specs.Prelude.{◌≡◌, ◌++◌, [], false, OnOk};
 ghost use Rattle.dl_instr.specs.Listing.{listing};
 ghost use Rattle.dl_print.specs.Canonical.{canonical};

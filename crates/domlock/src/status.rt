@@ -1,3 +1,5 @@
+//! How a call may end, the line that is printed of it, and the code that the program ends with.
+
 ghost use Rattle.std.specs.Prelude.{◌≡◌, ◌++◌, [], decimal, false};
 ghost use Rattle.dl_text.specs.Writing.{Puts};
 ghost use Rattle.domlock.specs.Status.{limit_text, module_why_text, ops_why_text, placed_text, status_text, code_of};

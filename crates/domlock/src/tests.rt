@@ -1,3 +1,5 @@
+//! Tests of words, refusals and small reports.
+
 ghost use Rattle.std.specs.Prelude.{◌≤◌};
 
 use crate::status::{OpsWhy, Status, exit_code, status_line};
@@ -41,7 +43,7 @@ const COUNTER_CODE: &[u8] =
     b"code\nop add\n0 read r.val\n1 set v\n2 eval v + n\n3 set v\n4 eval v\n5 write r.val\n6 give v\n7 give 0\nop get\n0 read r.val\n1 set v\n2 give v\n3 give 0\nend\n";
 
 // The line that the program prints of a status.
-fn line_of(alloc: Global, status: &Status) -> Result<MemSink, Fail> {
+pub fn line_of(alloc: Global, status: &Status) -> Result<MemSink, Fail> {
     let mut sink = MemSink::new(alloc, 100, &[], 200)?;
     let mut out = Out::new();
     status_line(status, &mut out, &mut sink).map_err(|_| "no status line")?;

@@ -1,10 +1,12 @@
+//! The top call, whose contract is what the program promises.
+
 ghost use Rattle.std.specs.Prelude.{◌≡◌, ◌+◌, ◌≤◌, ◌≢◌, ◌↔◌, ◌<◌, ◌⊎◌, ℕ, List, [], Some, None, All, length};
 ghost use Rattle.dl_io.specs.Faults.{Rose};
 ghost use Rattle.dl_io.specs.Taken.{Took};
 ghost use Rattle.dl_ir.specs.CallForms.{AreCallsOf};
 ghost use Rattle.dl_ir.specs.Checked.{IsChecked};
 ghost use Rattle.domlock.specs.Causes.{Refuses, Cut};
-ghost use Rattle.domlock.specs.Promise.{Ran, Finishes, Ends};
+ghost use Rattle.domlock.specs.Promise.{Ran, Finishes, Ends, nothing_done};
 ghost use Rattle.domlock.specs.Told.{EndsAsTold, IsInOrder};
 ghost use Rattle.domlock.specs.Words.{Task, limit_of, task_of_words};
 
@@ -32,7 +34,7 @@ pub struct Outcome {
 // An outcome of which nothing was carried out.
 fn nothing(alloc: Global, status: Status) -> Outcome
     ensures status { result.status ≡ status }
-    ensures history { result.history.entries ≡ [] }
+    ensures history { result.history ≡ nothing_done }
     ensures refusals { result.refusals ≡ [] }
 {
     Outcome {
@@ -48,7 +50,7 @@ fn serial<K: Sink>(alloc: Global, input: &Input, places: u32, out: &mut K) -> Ou
     requires checked { IsChecked input.now.source }
     requires one { length input.now.all.items ≡ 1 }
     requires calls { All (AreCallsOf input.now.source) input.now.all.items }
-    ensures { Finishes Verb.Serial input.now.tree input.now.source input.now.all.items places (K.taken out.old) (K.taken out.new) result.status result.history.entries result.refusals }
+    ensures { Finishes Verb.Serial input.now.tree input.now.source input.now.all.items places (K.taken out.old) (K.taken out.new) result.status result.history result.refusals }
 {
     match run_input(alloc, input, places) {
         Ok(run) => {
@@ -65,7 +67,7 @@ fn serial<K: Sink>(alloc: Global, input: &Input, places: u32, out: &mut K) -> Ou
 
 // Writes the module in its canonical form, and its code.
 fn show<K: Sink>(alloc: Global, input: &Input, out: &mut K) -> Outcome
-    ensures { (places : ℕ) → Finishes Verb.Show input.now.tree input.now.source input.now.all.items places (K.taken out.old) (K.taken out.new) result.status result.history.entries result.refusals }
+    ensures { (places : ℕ) → Finishes Verb.Show input.now.tree input.now.source input.now.all.items places (K.taken out.old) (K.taken out.new) result.status result.history result.refusals }
 {
     match instrument(alloc, &input.source) {
         Ok(code) => nothing(alloc, write_shown(&input.tree, &code, out)),
@@ -74,7 +76,7 @@ fn show<K: Sink>(alloc: Global, input: &Input, out: &mut K) -> Outcome
 }
 
 fn run_still<F: Files, K: Sink>(alloc: Global, words: &Words, files: &mut F, out: &mut K) -> Outcome
-    ensures { Ends words.now (F.source files.old) (F.source files.new) (K.taken out.old) (K.taken out.new) result.status result.history.entries result.refusals }
+    ensures { Ends words.now (F.source files.old) (F.source files.new) (K.taken out.old) (K.taken out.new) result.status result.history result.refusals }
 {
     let Some(command) = command_of(words) else {
         return nothing(alloc, Status::Usage);
@@ -98,16 +100,16 @@ pub fn domlock_still<F: Files, K: Sink>(
     out: &mut K,
 ) -> Outcome
     // The sink took what the command writes of what the files' bytes spell.
-    ensures done { result.status ≡ Status.Done → (text : List ℕ) × Ran words.now (F.source files.old) result.history.entries result.refusals text
+    ensures done { result.status ≡ Status.Done → (text : List ℕ) × Ran words.now (F.source files.old) result.history result.refusals text
         × Took (K.taken out.old).written (K.taken out.new).written text }
 
     // The same, and a prefix of it was taken.
-    ensures write_fault { result.status ≡ Status.WriteFault → (text : List ℕ) × Ran words.now (F.source files.old) result.history.entries result.refusals text
+    ensures write_fault { result.status ≡ Status.WriteFault → (text : List ℕ) × Ran words.now (F.source files.old) result.history result.refusals text
         × Cut text (K.taken out.old) (K.taken out.new) }
 
     // Else nothing was written.
     ensures nothing { result.status ≢ Status.Done → result.status ≢ Status.WriteFault →
-        (K.taken out.new ≡ K.taken out.old) × (result.history.entries ≡ []) × (result.refusals ≡ []) }
+        (K.taken out.new ≡ K.taken out.old) × (result.history ≡ nothing_done) × (result.refusals ≡ []) }
     ensures usage { result.status ≡ Status.Usage ↔ (task_of_words words.now ≡ None) }
 
     // Each other refusal has its cause.
@@ -121,12 +123,12 @@ pub fn domlock_still<F: Files, K: Sink>(
     ensures complete { (task : Task) → task_of_words words.now ≡ Some task → IsInOrder (F.source files.old) task →
         ¬ Rose (K.taken out.old).faults (K.taken out.new).faults → (result.status ≡ Status.Done) ⊎ (result.status ≡ Status.Memory) }
 
-    // Where more than a file's limit was taken of it in this call, nothing else is answered.
-    ensures too_long { (F.source files.old).given ≡ 0 → (file : ℕ) → (F.source files.new).attached ≡ Some file →
+    // Where more than a file's limit was taken of it, nothing else is answered. Files are attached where the words are a command.
+    ensures too_long { (task : Task) → task_of_words words.now ≡ Some task → (file : ℕ) → (F.source files.new).attached ≡ Some file →
         limit_of file < (F.source files.new).given → result.status ≡ Status.TooLong file }
 
     // Of no file more than one byte over its limit is taken.
-    ensures at_most { (F.source files.old).given ≡ 0 → (file : ℕ) → (F.source files.new).attached ≡ Some file →
+    ensures at_most { (task : Task) → task_of_words words.now ≡ Some task → (file : ℕ) → (F.source files.new).attached ≡ Some file →
         (F.source files.new).given ≤ limit_of file + 1 }
 {
     run_still(alloc, words, files, out)

@@ -1,3 +1,5 @@
+//! The words behind the program's name, and the command that they give.
+
 ghost use Rattle.std.specs.Prelude.{◌≡◌, ◌≤◌, map, option_map, string_bytes, IfSome, length};
 ghost use Rattle.domlock.specs.Words as spec;
 ghost use Rattle.domlock.specs.Words.{task_of, task_of_words};

@@ -15,4 +15,4 @@ returns-in_ok-push-2 c places first count begun calls after there is =
     after_entry c.args.source.now places first begun calls count c.args.line.now c.carry_out.new.line c.args.heap.now c.carry_out.new.heap c.args.call.now c.in_ok-entry.entry c.push-else-line-need.new.self after there
     (rw (← c.allocs-need.ensures) c.if-line-need.false)
     (subst (λ n. IsEntryOf c.args.source.now c.args.heap.now.objects c.args.call.now c.args.line.now.ticket n c.args.line.now.version c.in_ok-entry.entry) is c.in_ok-entry.ensures.entry)
-    c.in_ok-entry.ensures.left c.in_ok-entry.ensures.grows c.in_ok-entry.ensures.line c.in_ok-push-2.ensures.ok
+    c.in_ok-entry.ensures.left c.in_ok-entry.ensures.line c.in_ok-push-2.ensures.ok

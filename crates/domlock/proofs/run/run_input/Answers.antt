@@ -3,12 +3,12 @@ use Rattle.std.proofs.lemmas.List.{append-nil}
 use Rattle.dl_ir.specs.declared.answers.Entry.{Entry as OneEntry}
 use Rattle.dl_ir.specs.Heap.{View}
 use Rattle.dl_shape.specs.Rising.{in_rising, AreApart}
+use Rattle.dl_shape.proofs.Legal.{legal_rises}
 use Rattle.dl_shape.proofs.Rising.{rising_is, rises_apart}
 use Rattle.dl_history.specs.Histories.{joined, AreByCaller}
 use Rattle.dl_closed.proofs.Histories.{never_seals}
 use Rattle.dl_serial.proofs.Starting.{greatest_ticket-start, hidden_count-start}
-use Rattle.dl_serial.proofs.Listed.{serves_short, serves_tickets, serves_apart, serves_caller, serves_in_order}
-use Rattle.domlock.proofs.RunLemmas.{one_element, one_by_caller}
+use Rattle.domlock.proofs.RunLemmas.{one_element, one_by_caller, one_in_order}
 use Rattle.domlock.proofs.run.run_input.Goals as goal
 
 pub run_calls-requires-clause-next : goal.run_calls-requires-clause-next
@@ -22,20 +22,19 @@ overflow_cast-len c =
     let one = one_element c.args.input.now.all.items c.index.result.now c.requires.one c.index.ensures in
     let calls = rw one at c.requires.calls in
     let few = (calls 0 c.index.result.now (omega arith)).short in
-    let short = serves_short _ _ _ _ _ c.in_ok-served.ensures.serves.1 in
-    omega (arith, c.len.ensures, few, short)
+    omega (arith, c.len.ensures, few, c.in_ok-served.ensures.short)
 
 pub merge-history-requires-clause-tickets : goal.merge-history-requires-clause-tickets
 merge-history-requires-clause-tickets c =
     let list : joined c.in_ok-closed.closed.entries ≡ c.in_ok-served.served.entries = ap joined c.in_ok-closed.ensures.entries ∙ append-nil _ in
     subst (λ es. AreApart (λ (entry : OneEntry). entry.ticket) es) (sym list)
-    (rises_apart (λ (entry : OneEntry). entry.ticket) _ (serves_tickets _ _ _ _ _ c.in_ok-served.ensures.serves.1))
+    (rises_apart (λ (entry : OneEntry). entry.ticket) _ (legal_rises c.in_ok-served.ensures.legal))
 
 pub merge-history-requires-clause-versions : goal.merge-history-requires-clause-versions
 merge-history-requires-clause-versions c =
     let one = one_element c.args.input.now.all.items c.index.result.now c.requires.one c.index.ensures in
     let list : joined c.in_ok-closed.closed.entries ≡ c.in_ok-served.served.entries = ap joined c.in_ok-closed.ensures.entries ∙ append-nil _ in
-    rw (c.as_slice-2.ensures.value, one, list) (serves_apart _ _ _ _ _ c.in_ok-served.ensures.serves.1)
+    rw (c.as_slice-2.ensures.value, one, list) c.in_ok-served.ensures.apart
 
 pub returns-clause-run : goal.returns-clause-run
 returns-clause-run c =
@@ -46,12 +45,17 @@ returns-clause-run c =
     let list : joined c.in_ok-closed.closed.entries ≡ c.in_ok-served.served.entries = ap joined c.in_ok-closed.ensures.entries ∙ append-nil _ in
     let same : c.merge-history.result.entries ≡ c.in_ok-served.served.entries
     = c.merge-history.ensures.entries ∙ ap (in_rising (λ (entry : OneEntry). entry.ticket)) list
-    ∙ rising_is (λ (entry : OneEntry). entry.ticket) _ (serves_tickets _ _ _ _ _ c.in_ok-served.ensures.serves.1) in
+    ∙ rising_is (λ (entry : OneEntry). entry.ticket) _ (legal_rises c.in_ok-served.ensures.legal) in
     let those : c.in_ok-refusals.refusals ≡ c.in_ok-served.served.refusals = c.in_ok-refusals.ensures ∙ c.as_slice.ensures in
+    let of_one = c.in_ok-served.ensures.refusals in
+    let moves = rw (c.as_slice-2.ensures.value, one, same) at c.merge-history.ensures.moves in
     rw (one, same, those) record {
       covers = c.in_ok-served.ensures.covers;
+      in_order = one_in_order _ of_one.caller of_one.in_order;
       legal = legal;
       lawful = lawful;
+      moves = moves;
+      versions = c.in_ok-served.ensures.versions;
       unsealed = λ closed. never_seals _ _ _ _ calls closed legal;
     }
 
@@ -62,14 +66,13 @@ returns-clause-heap c =
     let list : joined c.in_ok-closed.closed.entries ≡ c.in_ok-served.served.entries = ap joined c.in_ok-closed.ensures.entries ∙ append-nil _ in
     let same : c.merge-history.result.entries ≡ c.in_ok-served.served.entries
     = c.merge-history.ensures.entries ∙ ap (in_rising (λ (entry : OneEntry). entry.ticket)) list
-    ∙ rising_is (λ (entry : OneEntry). entry.ticket) _ (serves_tickets _ _ _ _ _ c.in_ok-served.ensures.serves.1) in
+    ∙ rising_is (λ (entry : OneEntry). entry.ticket) _ (legal_rises c.in_ok-served.ensures.legal) in
     rw (one, same) (ap (λ (h : View). h.objects) c.in_ok-closed.ensures.heap ∙ sym replay)
 
 pub returns-clause-refusals : goal.returns-clause-refusals
 returns-clause-refusals c =
     let those : c.in_ok-refusals.refusals ≡ c.in_ok-served.served.refusals = c.in_ok-refusals.ensures ∙ c.as_slice.ensures in
-    let of_it = serves_caller _ _ _ _ _ c.in_ok-served.ensures.serves.1 in
-    let up = serves_in_order _ _ _ _ _ c.in_ok-served.ensures.serves.1 in (
+    let of_one = c.in_ok-served.ensures.refusals in (
       ap joined c.in_ok-closed.ensures.refusals ∙ append-nil _ ∙ sym those,
-      subst AreByCaller (sym c.in_ok-closed.ensures.refusals) (one_by_caller _ of_it up),
+      subst AreByCaller (sym c.in_ok-closed.ensures.refusals) (one_by_caller _ of_one.caller of_one.in_order),
     )
