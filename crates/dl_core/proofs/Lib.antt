@@ -31,6 +31,10 @@ pub mod CoreSteps
 pub mod KeptSame
 pub mod Fits
 pub mod HeldFew
+pub mod CallerFacts
+pub mod RunCounts
+pub mod PlacesFew
+pub mod FromKept
 pub mod Clearance
 pub mod HeapKept
 pub mod Fresh

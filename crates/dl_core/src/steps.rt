@@ -8,8 +8,8 @@ ghost use Rattle.dl_core.specs.declared.frames.Frame.{Frame as Kept};
 ghost use Rattle.dl_core.specs.Accounts.{shown_account};
 ghost use Rattle.dl_core.specs.Core.{Account, stepped, with_call, no_account};
 ghost use Rattle.dl_core.specs.Frames.{Frame as Pure, idle};
-ghost use Rattle.dl_core.specs.LocalSteps.{due as due_in, IsReady};
-ghost use Rattle.dl_core.specs.Parts.{core_by, core_of, CanStep, CanAdvance, CanBegin};
+ghost use Rattle.dl_core.specs.LocalSteps.{due as due_in};
+ghost use Rattle.dl_core.specs.Parts.{core_by, core_of, CanStep, CanAdvance, CanBegin, IsInRun, StandsReady};
 ghost use Rattle.dl_core.specs.Plans.{Plan};
 ghost use Rattle.dl_core.specs.Shown.{shown, memory_of, CanGoOn, HasTurns};
 
@@ -27,7 +27,7 @@ use dl_ir::{Call, Table};
 /// The event that comes next at a frame at which no local step does.
 pub fn due_of(code: &Code, frame: &mut Frame) -> Due
     requires can { CanGoOn code.now frame.old }
-    requires ready { (plan : Plan) → plan.code ≡ code.now → IsReady plan (shown frame.old) }
+    requires ready { StandsReady code.now frame.old }
     ensures due { (plan : Plan) → plan.code ≡ code.now → result ≡ due_in plan (shown frame.old) }
     ensures same { frame.new ≡ frame.old }
 {
@@ -83,8 +83,8 @@ pub fn step(
     take_step(code, caller, due, heap, counters, frame)
 }
 
-/// Gives a caller a step.
-pub fn advance(
+// Gives a caller a step, for which all is there that it needs.
+fn advance_by(
     code: &Code,
     caller: u32,
     heap: &mut Table<Object>,
@@ -102,6 +102,24 @@ pub fn advance(
 {
     let frame = &mut frames[caller as usize];
     step(code, caller, heap, counters, frame)
+}
+
+/// Gives a caller a step, in a state of a run.
+pub fn advance(
+    code: &Code,
+    caller: u32,
+    heap: &mut Table<Object>,
+    counters: &mut Counters,
+    frames: &mut Vec<Frame>,
+) -> Progress
+    requires run { IsInRun code.now heap.old frames.old.items counters.old }
+    requires from_one { 0 < caller }
+    requires within { caller < length frames.old.items }
+    ensures stepped { (plan : Plan) → plan.code ≡ code.now → stepped plan (core_of heap.old frames.old.items counters.old) caller ≡ (core_of heap.new frames.new.items counters.new, result) }
+    ensures frames { (before : Kept) → slice_get frames.old.items caller ≡ Some before → (after : Kept) × (frames.new.items ≡ set frames.old.items caller after) × CanGoOn code.now after × (memory_of after ≡ memory_of before) }
+    ensures room { heap.new.room ≡ heap.old.room }
+{
+    advance_by(code, caller, heap, counters, frames)
 }
 
 /// Puts a call into a caller's hand.
