@@ -35,6 +35,7 @@ pub mod CallerFacts
 pub mod RunCounts
 pub mod PlacesFew
 pub mod FromKept
+pub mod BeginFits
 pub mod Clearance
 pub mod HeapKept
 pub mod Fresh

@@ -30,7 +30,7 @@ one_reserved account = elim (nat_lt 0 account.reserved_at) as (λ b. cond b 1 0 
 
 module _ (plan : Plan) (core : Core) (calls : Calls) (is : IsPlan plan) (all : IsKept plan core calls) where
   -- each caller has begun few calls
-  begun_few : (caller : ℕ) → length (calls_of calls caller) ≤ 65536
+  pub begun_few : (caller : ℕ) → length (calls_of calls caller) ≤ 65536
   begun_few zero = omega arith
   begun_few (suc place) = by (caller_or place)
     where

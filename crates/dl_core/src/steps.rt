@@ -1,7 +1,9 @@
 // One step of a caller, on the parts of the state that it changes.
 ghost use Rattle.std.specs.Prelude.{◌≡◌, List, Some, ◌<◌, ◌≤◌, get_or, set, length, slice_get};
 ghost use Rattle.std.specs.FinMap as finite;
+ghost use Rattle.dl_ir.specs.CallForms.{IsCallOf};
 ghost use Rattle.dl_ir.specs.Rows.{Rows};
+ghost use Rattle.dl_core.specs.declared.stages.Stage.TheVariants as stages;
 ghost use Rattle.dl_core.specs.declared.counters.Counters.{Counters};
 ghost use Rattle.dl_core.specs.declared.objects.Object.{Object};
 ghost use Rattle.dl_core.specs.declared.frames.Frame.{Frame as Kept};
@@ -122,8 +124,8 @@ pub fn advance(
     advance_by(code, caller, heap, counters, frames)
 }
 
-/// Puts a call into a caller's hand.
-pub fn begin(code: &Code, caller: u32, call: &Call, frames: &mut Vec<Frame>)
+// Puts a call into a caller's hand, for which all is there that it needs.
+fn begin_by(code: &Code, caller: u32, call: &Call, frames: &mut Vec<Frame>)
     requires within { caller < length frames.old.items }
     requires turns { HasTurns code.now }
     requires may { (frame : Kept) → slice_get frames.old.items caller ≡ Some frame → CanBegin code.now frame call.now }
@@ -132,4 +134,16 @@ pub fn begin(code: &Code, caller: u32, call: &Call, frames: &mut Vec<Frame>)
 {
     let frame = &mut frames[caller as usize];
     begun(code, call, frame);
+}
+
+/// Puts a call into a caller's hand, in a state of a run.
+pub fn begin(code: &Code, caller: u32, call: &Call, frames: &mut Vec<Frame>)
+    requires run { (heap : Rows Object) × (counters : Counters) × IsInRun code.now heap frames.old.items counters }
+    requires within { caller < length frames.old.items }
+    requires idle { (frame : Kept) → slice_get frames.old.items caller ≡ Some frame → frame.stage ≡ stages.Idle }
+    requires fits { IsCallOf code.now.source call.now }
+    ensures core { (heap : Rows Object) (counters : Counters) → core_of heap frames.new.items counters ≡ with_call (core_of heap frames.old.items counters) caller call.now }
+    ensures frames { (before : Kept) → slice_get frames.old.items caller ≡ Some before → (after : Kept) × (frames.new.items ≡ set frames.old.items caller after) × CanGoOn code.now after × (memory_of after ≡ memory_of before) }
+{
+    begin_by(code, caller, call, frames);
 }
