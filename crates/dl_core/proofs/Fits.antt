@@ -4,6 +4,7 @@ use Rattle.std.specs.Prelude.{slice_get}
 use Rattle.std.proofs.lemmas.Option.{slice_get_within}
 use Rattle.std.specs.Option.{option_map_or}
 use Rattle.std.specs.FinMap as finite
+use Rattle.dl_ir.specs.declared.answers.End.{End}
 use Rattle.dl_ir.specs.declared.modules.FieldDecl.{FieldDecl}
 use Rattle.dl_ir.specs.declared.modules.KindDecl.{KindDecl}
 use Rattle.dl_ir.specs.declared.modules.Ty.{Ty}
@@ -63,7 +64,7 @@ pub record HasFacts (plan : Plan) (kept : Kept) (heap : Rows Object) (counters :
   pub make : (kind : ℕ) → IsAtStep plan (shown kept) (Make kind) → kept.made < allocs_of plan (shown kept).call → CanHoldMore kept × (kept.made + 1 < 2 ^ 32) × (finite.len heap.rows < heap.room)
   pub asks : kept.stage ≡ stages.Called → kept.spares < allocs_of plan (shown kept).call → CanAsk kept counters
   pub enters : kept.stage ≡ stages.Called → CanEnter plan.code kept counters
-  pub finishes : finite.entries kept.book.rows ≡ [] → CanFinish kept counters
+  pub finishes : (end : End) → kept.stage ≡ stages.Ended end → finite.entries kept.book.rows ≡ [] → CanFinish kept counters
 
 module _ (plan : Plan) (kept : Kept) (heap : Rows Object) (counters : Counters) (facts : HasFacts plan kept heap counters) where
   stands : (step : Step) → IsAtStep plan (shown kept) step → StandsAtStep plan.code kept
@@ -100,4 +101,4 @@ module _ (plan : Plan) (kept : Kept) (heap : Rows Object) (counters : Counters) 
   steps_need _ (gives_up name booked first none) = (first_of name first.rest first.first, facts.spares)
   steps_need _ (seals end entry rest none ended referring entries) = none
   steps_need _ (makes kind at few) = let made = facts.make kind at few in record { more = made.0; step = (Make kind, at.there); made = made.1; room = made.2 }
-  steps_need _ (finishes end none ended referring entries) = facts.finishes entries
+  steps_need _ (finishes end none ended referring entries) = facts.finishes end ended entries

@@ -30,6 +30,11 @@ pub mod CoreSteps
 pub mod KeptSame
 pub mod Fits
 pub mod HeldFew
+pub mod CallerFacts
+pub mod RunCounts
+pub mod PlacesFew
+pub mod FromKept
+pub mod BeginFits
 pub mod Clearance
 pub mod HeapKept
 pub mod Fresh

@@ -16,7 +16,7 @@ row_end next [] row = row
 row_end next (k ∷ kinds) row = let rest = row_end (next + k.count) kinds row.1 in omega (arith, rest)
 
 -- the roots of each root kind lie in the row
-in_row : (next : ℕ) (kinds : List KindDecl) (at : ℕ) (kind : KindDecl) → StandInRow next kinds → slice_get kinds at ≡ Some kind → kind.is_root ≡ true
+pub in_row : (next : ℕ) (kinds : List KindDecl) (at : ℕ) (kind : KindDecl) → StandInRow next kinds → slice_get kinds at ≡ Some kind → kind.is_root ≡ true
     → kind.first + kind.count ≤ 1024
 in_row next [] at kind row there root = absurd (none-some kind there)
 in_row next (k ∷ kinds) zero kind row there root =

@@ -5,7 +5,6 @@ ghost use Rattle.dl_core.specs.Frames.{is_to_loosen as to_loosen, has_booked as 
 ghost use Rattle.dl_core.specs.Shown.{shown, rooms_of, HasSpace};
 
 use crate::frames::{Frame, is_among, none_refers, target_in};
-use crate::numbers;
 use crate::stages::Stage;
 use dl_ir::{End, Name, Value};
 
@@ -47,7 +46,7 @@ pub fn loosen(frame: &mut Frame, target: Option<Name>)
 pub fn target_of(frame: &Frame, local: u32) -> Option<Name>
     ensures { result ≡ target_at (shown frame.now) local }
 {
-    numbers::target_at(frame.locals.as_slice(), local)
+    dl_meaning::target_at(frame.locals.as_slice(), local)
 }
 
 /// A local gets a value.

@@ -11,9 +11,9 @@ ghost use Rattle.dl_core.specs.Shown.{shown, shown_at, rooms_of, HasSpace, after
 use crate::bits::{assign, end, has_booked, held, target_held, target_of};
 use crate::dues::Due;
 use crate::frames::Frame;
-use crate::numbers::{evaluate, test};
 use dl_instr::{Content, Origin, Step};
 use dl_ir::{Cond, End, Expr, Fault, Name, Value};
+use dl_meaning::{evaluate, test};
 
 // The end that a fault in an expression is.
 fn end_of_fault(fault: Fault) -> End

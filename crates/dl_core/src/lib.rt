@@ -15,7 +15,6 @@ mod going_on;
 mod grounds;
 mod laws;
 mod lists;
-mod numbers;
 mod objects;
 mod ready;
 mod recounts;

@@ -1,15 +1,17 @@
 // One step of a caller, on the parts of the state that it changes.
 ghost use Rattle.std.specs.Prelude.{◌≡◌, List, Some, ◌<◌, ◌≤◌, get_or, set, length, slice_get};
 ghost use Rattle.std.specs.FinMap as finite;
+ghost use Rattle.dl_ir.specs.CallForms.{IsCallOf};
 ghost use Rattle.dl_ir.specs.Rows.{Rows};
+ghost use Rattle.dl_core.specs.declared.stages.Stage.TheVariants as stages;
 ghost use Rattle.dl_core.specs.declared.counters.Counters.{Counters};
 ghost use Rattle.dl_core.specs.declared.objects.Object.{Object};
 ghost use Rattle.dl_core.specs.declared.frames.Frame.{Frame as Kept};
 ghost use Rattle.dl_core.specs.Accounts.{shown_account};
 ghost use Rattle.dl_core.specs.Core.{Account, stepped, with_call, no_account};
 ghost use Rattle.dl_core.specs.Frames.{Frame as Pure, idle};
-ghost use Rattle.dl_core.specs.LocalSteps.{due as due_in, IsReady};
-ghost use Rattle.dl_core.specs.Parts.{core_by, core_of, CanStep, CanAdvance, CanBegin};
+ghost use Rattle.dl_core.specs.LocalSteps.{due as due_in};
+ghost use Rattle.dl_core.specs.Parts.{core_by, core_of, CanStep, CanAdvance, CanBegin, IsInRun, StandsReady};
 ghost use Rattle.dl_core.specs.Plans.{Plan};
 ghost use Rattle.dl_core.specs.Shown.{shown, memory_of, CanGoOn, HasTurns};
 
@@ -27,7 +29,7 @@ use dl_ir::{Call, Table};
 /// The event that comes next at a frame at which no local step does.
 pub fn due_of(code: &Code, frame: &mut Frame) -> Due
     requires can { CanGoOn code.now frame.old }
-    requires ready { (plan : Plan) → plan.code ≡ code.now → IsReady plan (shown frame.old) }
+    requires ready { StandsReady code.now frame.old }
     ensures due { (plan : Plan) → plan.code ≡ code.now → result ≡ due_in plan (shown frame.old) }
     ensures same { frame.new ≡ frame.old }
 {
@@ -83,8 +85,8 @@ pub fn step(
     take_step(code, caller, due, heap, counters, frame)
 }
 
-/// Gives a caller a step.
-pub fn advance(
+// Gives a caller a step, for which all is there that it needs.
+fn advance_by(
     code: &Code,
     caller: u32,
     heap: &mut Table<Object>,
@@ -104,8 +106,26 @@ pub fn advance(
     step(code, caller, heap, counters, frame)
 }
 
-/// Puts a call into a caller's hand.
-pub fn begin(code: &Code, caller: u32, call: &Call, frames: &mut Vec<Frame>)
+/// Gives a caller a step, in a state of a run.
+pub fn advance(
+    code: &Code,
+    caller: u32,
+    heap: &mut Table<Object>,
+    counters: &mut Counters,
+    frames: &mut Vec<Frame>,
+) -> Progress
+    requires run { IsInRun code.now heap.old frames.old.items counters.old }
+    requires from_one { 0 < caller }
+    requires within { caller < length frames.old.items }
+    ensures stepped { (plan : Plan) → plan.code ≡ code.now → stepped plan (core_of heap.old frames.old.items counters.old) caller ≡ (core_of heap.new frames.new.items counters.new, result) }
+    ensures frames { (before : Kept) → slice_get frames.old.items caller ≡ Some before → (after : Kept) × (frames.new.items ≡ set frames.old.items caller after) × CanGoOn code.now after × (memory_of after ≡ memory_of before) }
+    ensures room { heap.new.room ≡ heap.old.room }
+{
+    advance_by(code, caller, heap, counters, frames)
+}
+
+// Puts a call into a caller's hand, for which all is there that it needs.
+fn begin_by(code: &Code, caller: u32, call: &Call, frames: &mut Vec<Frame>)
     requires within { caller < length frames.old.items }
     requires turns { HasTurns code.now }
     requires may { (frame : Kept) → slice_get frames.old.items caller ≡ Some frame → CanBegin code.now frame call.now }
@@ -114,4 +134,16 @@ pub fn begin(code: &Code, caller: u32, call: &Call, frames: &mut Vec<Frame>)
 {
     let frame = &mut frames[caller as usize];
     begun(code, call, frame);
+}
+
+/// Puts a call into a caller's hand, in a state of a run.
+pub fn begin(code: &Code, caller: u32, call: &Call, frames: &mut Vec<Frame>)
+    requires run { (heap : Rows Object) × (counters : Counters) × IsInRun code.now heap frames.old.items counters }
+    requires within { caller < length frames.old.items }
+    requires idle { (frame : Kept) → slice_get frames.old.items caller ≡ Some frame → frame.stage ≡ stages.Idle }
+    requires fits { IsCallOf code.now.source call.now }
+    ensures core { (heap : Rows Object) (counters : Counters) → core_of heap frames.new.items counters ≡ with_call (core_of heap frames.old.items counters) caller call.now }
+    ensures frames { (before : Kept) → slice_get frames.old.items caller ≡ Some before → (after : Kept) × (frames.new.items ≡ set frames.old.items caller after) × CanGoOn code.now after × (memory_of after ≡ memory_of before) }
+{
+    begin_by(code, caller, call, frames);
 }

@@ -1,34 +1,27 @@
-use Rattle.std.proofs.Common.{◌≡◌, length, Some, map, set, refl, sym, ap, ◌∙◌}
-use Rattle.std.specs.Prelude.{slice_get}
-use Rattle.std.proofs.lemmas.List.{map-set, get_or-map}
-use Rattle.std.proofs.lemmas.Option.{slice_get_read}
-use Rattle.dl_core.specs.Core.{no_account}
+use Rattle.std.proofs.Common.{◌≡◌, ◌≤◌, length, map, Some, sym, ap, subst, ◌∙◌, arith}
+use Rattle.std.specs.Prelude.{get_or, slice_get}
+use Rattle.std.specs.FinMap as finite
+use Rattle.std.proofs.lemmas.List.{get_or-map, length-map}
+use Rattle.std.proofs.lemmas.Option.{slice_get_within, get_or_from_slice_get}
+use Rattle.dl_instr.specs.declared.code.Code.{Code}
 use Rattle.dl_core.specs.Frames.{idle}
-use Rattle.dl_core.specs.Accounts.{shown_account}
-use Rattle.dl_core.specs.Parts.{core_by}
-use Rattle.dl_core.specs.Shown.{shown, memory_of}
-use Rattle.dl_core.proofs.Names.{same_some}
+use Rattle.dl_core.specs.Parts.{CanAdvance}
+use Rattle.dl_core.specs.Shown.{shown, CanGoOn}
+use Rattle.dl_core.proofs.FromKept.{can_advance, heap_fits}
 use Rattle.dl_core.proofs.steps.advance.Goals as goal
 
-pub step-requires-clause-may : goal.step-requires-clause-may
-step-requires-clause-may c =
+pub advance_by-requires-clause-may : goal.advance_by-requires-clause-may
+advance_by-requires-clause-may c frame there =
+    let run = c.requires.run in
     let frames = c.args.frames.now.items in
-    let frame = c.index_mut-frame.result.now in
-    c.requires.may frame (slice_get_read frames (length frames) c.args.caller frame refl c.requires.within c.index_mut-frame.ensures.value)
+    let within = slice_get_within frames c.args.caller frame there in
+    subst (λ (code : Code). CanAdvance code frame c.args.heap.now c.args.counters.now) run.code_is
+    (can_advance run.plan c.args.heap.now frames c.args.counters.now run.calls c.args.caller frame run.is run.kept
+    (record { from_one = c.requires.from_one; to_last = omega (arith, within, length-map frames shown, run.kept.sound.frames) })
+    (get_or-map shown frames c.args.caller frame idle within ∙ ap shown (get_or_from_slice_get frames c.args.caller frame frame there))
+    run.room (run.memory c.args.caller frame there) (subst (λ (code : Code). CanGoOn code frame) (sym run.code_is) (run.can c.args.caller frame there)))
 
-pub returns-clause-stepped : goal.returns-clause-stepped
-returns-clause-stepped c plan code =
-    let frames = c.args.frames.now.items in
-    let frame = c.index_mut-frame.result.now in
-    let value = sym c.index_mut-frame.ensures.value in
-    c.step.ensures.stepped plan (map shown frames) (map shown_account frames) code
-    (get_or-map shown frames c.args.caller frame idle c.requires.within ∙ ap shown value)
-    (get_or-map shown_account frames c.args.caller frame no_account c.requires.within ∙ ap shown_account value)
-    ∙ (λ i. (core_by c.step.new.heap.rows (sym (map-set shown frames c.args.caller c.step.new.frame) i) (sym (map-set shown_account frames c.args.caller c.step.new.frame) i) c.step.new.counters, c.step.result))
-
-pub returns-clause-frames : goal.returns-clause-frames
-returns-clause-frames c before e =
-    let frames = c.args.frames.now.items in
-    let frame = c.index_mut-frame.result.now in
-    let there : slice_get frames c.args.caller ≡ Some frame = slice_get_read frames (length frames) c.args.caller frame refl c.requires.within c.index_mut-frame.ensures.value in
-    (c.step.new.frame, refl, c.step.ensures.can, c.step.ensures.memory ∙ ap memory_of (same_some (sym there ∙ e)))
+pub advance_by-requires-clause-few : goal.advance_by-requires-clause-few
+advance_by-requires-clause-few c =
+    let run = c.requires.run in
+    heap_fits run.plan c.args.heap.now c.args.frames.now.items c.args.counters.now run.calls run.is run.kept run.room

@@ -1,62 +1,25 @@
-use Rattle.std.proofs.Common.{◌≡◌, length, List, Some, map, set, refl, sym, ap, ◌∙◌}
-use Rattle.std.specs.Prelude.{slice_get, get_or}
-use Rattle.std.proofs.lemmas.List.{map-set, get_or-map, set-get_or}
-use Rattle.std.proofs.lemmas.Option.{slice_get_read}
-use Rattle.dl_core.specs.Core.{Account, no_account}
-use Rattle.dl_core.specs.Events.{begun}
-use Rattle.dl_core.specs.Frames.{Frame, idle}
-use Rattle.dl_core.specs.Accounts.{shown_account}
-use Rattle.dl_core.specs.Parts.{core_by}
-use Rattle.dl_core.specs.Shown.{shown, memory_of}
-use Rattle.dl_core.proofs.Names.{same_some}
+use Rattle.std.proofs.Common.{Some, sym, ap, subst, ◌∙◌}
+use Rattle.std.proofs.lemmas.List.{get_or-map}
+use Rattle.std.proofs.lemmas.Option.{slice_get_within, get_or_from_slice_get}
+use Rattle.dl_ir.specs.CallForms.{IsCallOf}
+use Rattle.dl_instr.specs.declared.code.Code.{Code}
+use Rattle.dl_core.specs.Frames.{idle}
+use Rattle.dl_core.specs.Parts.{CanBegin}
+use Rattle.dl_core.specs.Shown.{shown, CanGoOn}
+use Rattle.dl_core.proofs.BeginFits.{can_begin}
 use Rattle.dl_core.proofs.steps.begin.Goals as goal
 
-pub begun-requires-clause-can : goal.begun-requires-clause-can
-begun-requires-clause-can c =
+pub begin_by-requires-clause-may : goal.begin_by-requires-clause-may
+begin_by-requires-clause-may c frame there =
+    let heap = c.requires.run.0 in
+    let counters = c.requires.run.1 in
+    let run = c.requires.run.2 in
     let frames = c.args.frames.now.items in
-    let frame = c.index_mut-frame.result.now in
-    (c.requires.may frame (slice_get_read frames (length frames) c.args.caller frame refl c.requires.within c.index_mut-frame.ensures.value)).can
+    subst (λ (code : Code). CanBegin code frame c.args.call.now) run.code_is
+    (can_begin run.plan heap frames counters run.calls c.args.caller frame run.is run.kept
+    (get_or-map shown frames c.args.caller frame idle (slice_get_within frames c.args.caller frame there) ∙ ap shown (get_or_from_slice_get frames c.args.caller frame frame there))
+    (run.memory c.args.caller frame there) (subst (λ (code : Code). CanGoOn code frame) (sym run.code_is) (run.can c.args.caller frame there)) (c.requires.idle frame there) c.args.call.now
+    (subst (λ (code : Code). IsCallOf code.source c.args.call.now) (sym run.code_is) c.requires.fits))
 
-pub begun-requires-clause-held : goal.begun-requires-clause-held
-begun-requires-clause-held c =
-    let frames = c.args.frames.now.items in
-    let frame = c.index_mut-frame.result.now in
-    (c.requires.may frame (slice_get_read frames (length frames) c.args.caller frame refl c.requires.within c.index_mut-frame.ensures.value)).held
-
-pub begun-requires-clause-index : goal.begun-requires-clause-index
-begun-requires-clause-index c =
-    let frames = c.args.frames.now.items in
-    let frame = c.index_mut-frame.result.now in
-    (c.requires.may frame (slice_get_read frames (length frames) c.args.caller frame refl c.requires.within c.index_mut-frame.ensures.value)).index
-
-pub begun-requires-clause-args : goal.begun-requires-clause-args
-begun-requires-clause-args c =
-    let frames = c.args.frames.now.items in
-    let frame = c.index_mut-frame.result.now in
-    (c.requires.may frame (slice_get_read frames (length frames) c.args.caller frame refl c.requires.within c.index_mut-frame.ensures.value)).args
-
-pub begun-requires-clause-roots : goal.begun-requires-clause-roots
-begun-requires-clause-roots c =
-    let frames = c.args.frames.now.items in
-    let frame = c.index_mut-frame.result.now in
-    (c.requires.may frame (slice_get_read frames (length frames) c.args.caller frame refl c.requires.within c.index_mut-frame.ensures.value)).roots
-
-pub returns-clause-core : goal.returns-clause-core
-returns-clause-core c heap counters =
-    let frames = c.args.frames.now.items in
-    let frame = c.index_mut-frame.result.now in
-    let value = sym c.index_mut-frame.ensures.value in
-    let old_frame : get_or (map shown frames) c.args.caller idle ≡ shown frame = get_or-map shown frames c.args.caller frame idle c.requires.within ∙ ap shown value in
-    let old_account : get_or (map shown_account frames) c.args.caller no_account ≡ shown_account frame = get_or-map shown_account frames c.args.caller frame no_account c.requires.within ∙ ap shown_account value in
-    let accounts : map shown_account (set frames c.args.caller c.begun.new.frame) ≡ map shown_account frames =
-    map-set shown_account frames c.args.caller c.begun.new.frame ∙ ap (set (map shown_account frames) c.args.caller) (c.begun.ensures.account ∙ sym old_account) ∙ set-get_or (map shown_account frames) c.args.caller no_account in
-    let shown_frames : map shown (set frames c.args.caller c.begun.new.frame) ≡ set (map shown frames) c.args.caller (begun c.args.call.now (get_or (map shown frames) c.args.caller idle)) =
-    map-set shown frames c.args.caller c.begun.new.frame ∙ ap (set (map shown frames) c.args.caller) (c.begun.ensures.shown ∙ ap (begun c.args.call.now) (sym old_frame)) in
-    λ i. core_by heap.rows (shown_frames i) (accounts i) counters
-
-pub returns-clause-frames : goal.returns-clause-frames
-returns-clause-frames c before e =
-    let frames = c.args.frames.now.items in
-    let frame = c.index_mut-frame.result.now in
-    let there : slice_get frames c.args.caller ≡ Some frame = slice_get_read frames (length frames) c.args.caller frame refl c.requires.within c.index_mut-frame.ensures.value in
-    (c.begun.new.frame, refl, c.begun.ensures.can, c.begun.ensures.memory ∙ ap memory_of (same_some (sym there ∙ e)))
+pub begin_by-requires-clause-turns : goal.begin_by-requires-clause-turns
+begin_by-requires-clause-turns c = c.requires.run.2.turns
