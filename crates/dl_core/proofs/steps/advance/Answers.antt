@@ -1,6 +1,4 @@
-use Rattle.std.proofs.Common.{◌≡◌, ◌≤◌, length, map, Some, sym, ap, subst, ◌∙◌, arith}
-use Rattle.std.specs.Prelude.{get_or, slice_get}
-use Rattle.std.specs.FinMap as finite
+use Rattle.std.proofs.Common.{sym, ap, subst, ◌∙◌, arith}
 use Rattle.std.proofs.lemmas.List.{get_or-map, length-map}
 use Rattle.std.proofs.lemmas.Option.{slice_get_within, get_or_from_slice_get}
 use Rattle.dl_instr.specs.declared.code.Code.{Code}
