@@ -1,5 +1,5 @@
 -- In every state of a run, what the begin of a call needs is there.
-use Rattle.std.proofs.Common.{◌≡◌, ◌⊎◌, inl, inr, ℕ, ℤ, ◌+◌, ◌<◌, ◌≤◌, ◌^◌, List, [], ◌∷◌, length, refl, sym, ap, subst, ◌∙◌, arith}
+use Rattle.std.proofs.Common.{◌≡◌, inl, inr, ℕ, ℤ, List, [], ◌∷◌, length, refl, sym, ap, subst, ◌∙◌, arith}
 use Rattle.dl_ir.specs.declared.answers.End.{End}
 use Rattle.dl_ir.specs.declared.calls.Call.{Call}
 use Rattle.dl_ir.specs.declared.modules.LocalDecl.{LocalDecl}
@@ -9,7 +9,6 @@ use Rattle.dl_ir.specs.Rows.{Rows}
 use Rattle.dl_core.specs.declared.counters.Counters.{Counters}
 use Rattle.dl_core.specs.declared.frames.Frame.{Frame as Kept}
 use Rattle.dl_core.specs.declared.objects.Object.{Object}
-use Rattle.dl_core.specs.declared.stages.Stage.{Stage}
 use Rattle.dl_core.specs.declared.stages.Stage.TheVariants as stages
 use Rattle.dl_core.specs.Core.{frame_of}
 use Rattle.dl_core.specs.Frames.{Frame, at_rest}

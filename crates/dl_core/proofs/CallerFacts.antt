@@ -1,6 +1,6 @@
 -- What holds of a caller's frame in every state of a run, as numbers and memory need it.
-use Rattle.std.proofs.Common.{◌≡◌, ◌≢◌, ◌⊎◌, inl, inr, ℕ, zero, suc, ◌+◌, ◌-◌, ◌*◌, ◌<◌, ◌≤◌, List, [], ◌∷◌, length, get_or, Option, Some, None, refl, sym, ap, subst, ◌∙◌, arith}
-use Rattle.std.specs.Prelude.{slice_get, sum_by, All}
+use Rattle.std.proofs.Common.{◌≡◌, inl, inr, ℕ, zero, suc, ◌+◌, ◌*◌, ◌<◌, ◌≤◌, List, [], ◌∷◌, length, get_or, Option, Some, refl, sym, ap, subst, ◌∙◌, arith}
+use Rattle.std.specs.Prelude.{slice_get, All}
 use Rattle.std.specs.Option.{option_map_or}
 use Rattle.std.specs.FinMap as finite
 use Rattle.std.specs.FinMap.{len-entries, empty_of_len}
@@ -13,17 +13,16 @@ use Rattle.dl_ir.specs.Checked.{IsOperation}
 use Rattle.dl_ir.specs.References.{refers_to}
 use Rattle.dl_core.specs.declared.objects.Object.{Object}
 use Rattle.dl_core.specs.declared.stages.Booked.{Booked}
-use Rattle.dl_core.specs.declared.stages.Stage.{Stage}
 use Rattle.dl_core.specs.declared.stages.Stage.TheVariants as stages
 use Rattle.dl_core.specs.Arguments.{HoldsCall}
 use Rattle.dl_core.specs.Core.{Core, frame_of}
 use Rattle.dl_core.specs.Frames.{Frame, Book, idle}
 use Rattle.dl_core.specs.Heaps.{Heap, refs, refs_in, total, plain_object}
 use Rattle.dl_core.specs.Laws.{IsKept}
-use Rattle.dl_core.specs.Plans.{Plan, IsPlan, IsCaller, source_of, op_of, allocs_of}
+use Rattle.dl_core.specs.Plans.{Plan, IsPlan, IsCaller, source_of, allocs_of}
 use Rattle.dl_core.specs.Reached.{Calls}
 use Rattle.dl_core.specs.Shown.{HasFewFields}
-use Rattle.dl_core.specs.Sound.{HasCall, IsWaiting, IsWorking, Stands, idles, waits, works}
+use Rattle.dl_core.specs.Sound.{HasCall, IsWaiting, Stands, idles, waits, works}
 use Rattle.dl_core.proofs.Maps.{names, AreEntries, entries_are}
 use Rattle.dl_core.proofs.RootNumbers.{all_held}
 use Rattle.dl_core.proofs.Typing.{kind_of, plain_there}

@@ -6,8 +6,6 @@ use Rattle.dl_ir.specs.declared.answers.End.{End}
 use Rattle.dl_ir.specs.declared.names.Name.{Name}
 use Rattle.dl_ir.specs.Heap.{root}
 use Rattle.dl_core.specs.declared.answers.Event.{Event}
-use Rattle.dl_core.specs.declared.answers.Progress.{Progress}
-use Rattle.dl_core.specs.declared.answers.Progress.TheVariants as progress
 use Rattle.dl_core.specs.declared.counters.Counters.{Counters}
 use Rattle.dl_core.specs.declared.dues.Due.{Due}
 use Rattle.dl_core.specs.declared.dues.Due.TheVariants.{Nothing, Reserves, TakesRoot, Enters, Reads, Writes, Takes, LetsGo, GivesUp, Seals, Makes, Finishes}

@@ -1,5 +1,5 @@
 -- What an event needs is there, from why it comes next.
-use Rattle.std.proofs.Common.{◌≡◌, ◌⊎◌, inl, inr, ℕ, ◌+◌, ◌-◌, ◌<◌, ◌≤◌, ◌^◌, List, [], ◌∷◌, length, drop, Option, Some, None, refl, sym, ap, subst, ◌∙◌, arith, length-drop}
+use Rattle.std.proofs.Common.{◌≡◌, ℕ, ◌+◌, ◌<◌, ◌≤◌, ◌^◌, List, [], ◌∷◌, length, drop, Option, Some, None, refl, sym, ap, ◌∙◌, arith, length-drop}
 use Rattle.std.specs.Prelude.{slice_get}
 use Rattle.std.proofs.lemmas.Option.{slice_get_within}
 use Rattle.std.specs.Option.{option_map_or}
@@ -20,10 +20,10 @@ use Rattle.dl_core.specs.declared.frames.Frame.{Frame as Kept}
 use Rattle.dl_core.specs.declared.objects.Object.{Object}
 use Rattle.dl_core.specs.declared.objects.Mark.TheVariants as marks
 use Rattle.dl_core.specs.declared.stages.Stage.TheVariants as stages
-use Rattle.dl_core.specs.Needs.{CanHoldMore, CanMake}
+use Rattle.dl_core.specs.Needs.{CanHoldMore}
 use Rattle.dl_core.specs.Parts.{CanStep, CanAsk, CanEnter, CanFinish}
 use Rattle.dl_core.specs.Plans.{Plan, allocs_of, roots_of, fields_of, first_reference, or_later, reference_from}
-use Rattle.dl_core.specs.Shown.{shown, HasFewFields, HasFewRefs, HasStep, IsAtStep as StandsAtStep}
+use Rattle.dl_core.specs.Shown.{shown, HasFewFields, HasFewRefs, IsAtStep as StandsAtStep}
 use Rattle.dl_core.proofs.Why.{Why, IsAtStep, idles, reserves, takes_root, enters, reads_code, reads_first, writes_code, writes_first, takes_code, takes_first, lets_go, gives_up, seals, makes, finishes}
 
 -- the number of the first reference is one of a field

@@ -1,5 +1,5 @@
 -- In every state of a run, what giving a caller a step needs is there.
-use Rattle.std.proofs.Common.{◌≡◌, ◌≢◌, ◌⊎◌, inl, inr, ℕ, ◌+◌, ◌*◌, ◌<◌, ◌≤◌, ◌^◌, List, [], length, map, Option, Some, refl, sym, ap, subst, ◌∙◌, arith}
+use Rattle.std.proofs.Common.{◌≡◌, ◌≢◌, ℕ, ◌+◌, ◌<◌, ◌≤◌, ◌^◌, List, [], length, map, Some, refl, sym, ap, subst, ◌∙◌, arith}
 use Rattle.std.specs.FinMap as finite
 use Rattle.std.proofs.lemmas.List.{length-map}
 use Rattle.std.specs.FinMap.{len-entries}
@@ -13,11 +13,10 @@ use Rattle.dl_core.specs.declared.counters.Counters.{Counters}
 use Rattle.dl_core.specs.declared.frames.Frame.{Frame as Kept}
 use Rattle.dl_core.specs.declared.objects.Object.{Object}
 use Rattle.dl_core.specs.declared.objects.Mark.TheVariants as marks
-use Rattle.dl_core.specs.declared.stages.Booked.{Booked}
 use Rattle.dl_core.specs.declared.stages.Stage.{Stage}
 use Rattle.dl_core.specs.declared.stages.Stage.TheVariants as stages
 use Rattle.dl_core.specs.Arguments.{HoldsCall}
-use Rattle.dl_core.specs.Core.{Core, frame_of}
+use Rattle.dl_core.specs.Core.{frame_of}
 use Rattle.dl_core.specs.Frames.{Frame, idle, IsEntered}
 use Rattle.dl_core.specs.Heaps.{Heap, plain, plain_object}
 use Rattle.dl_core.specs.Laws.{IsKept}

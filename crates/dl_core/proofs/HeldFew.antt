@@ -1,17 +1,15 @@
 -- How many objects a caller can hold, and how many fields can refer to one.
-use Rattle.std.proofs.Common.{◌≡◌, ◌≢◌, ◌⊎◌, inl, inr, ℕ, zero, suc, ◌+◌, ◌-◌, ◌*◌, ◌<◌, ◌≤◌, ◌^◌, Bool, true, false, cond, List, [], ◌∷◌, length, map, Option, Some, None, refl, sym, ap, subst, ◌∙◌, arith}
-use Rattle.std.specs.Prelude.{is_some, sum_by, All}
+use Rattle.std.proofs.Common.{◌≡◌, ◌≢◌, ◌⊎◌, inl, inr, ℕ, zero, suc, ◌+◌, ◌-◌, ◌<◌, ◌≤◌, Bool, true, false, cond, List, [], ◌∷◌, length, Option, Some, None, refl, sym, ap, ◌∙◌, arith}
+use Rattle.std.specs.Prelude.{is_some}
 use Rattle.std.specs.FinMap as finite
 use Rattle.std.specs.FinMap.{FinMap, len-remove, len-entries, empty_of_len, get-empty, get-remove}
 use Rattle.std.specs.Ordering.{eq_by_cmp}
-use Rattle.std.proofs.lemmas.List.Sums.{sum_by-le}
 use Rattle.dl_ir.specs.declared.names.Name.{Name}
 use Rattle.dl_ir.specs.Heap.{name_cmp}
 use Rattle.dl_core.specs.declared.objects.Object.{Object}
 use Rattle.dl_core.specs.declared.objects.Mark.TheVariants as marks
-use Rattle.dl_core.specs.declared.stages.Booked.{Booked}
-use Rattle.dl_core.specs.Frames.{Book, Frame}
-use Rattle.dl_core.specs.Heaps.{Heap, IsHeld}
+use Rattle.dl_core.specs.Frames.{Frame}
+use Rattle.dl_core.specs.Heaps.{Heap}
 use Rattle.dl_core.specs.Sound.{HasBook}
 use Rattle.dl_core.proofs.Maps.{names, eq_there, AreEntries, entries_are}
 

@@ -1,7 +1,6 @@
 -- A frame is what it shows, with its memory and what is kept beside it.
 use Rattle.std.proofs.Common.{◌≡◌, ap}
 use Rattle.dl_core.specs.declared.frames.Frame.{Frame as Kept}
-use Rattle.dl_core.specs.Frames.{Frame}
 use Rattle.dl_core.specs.Core.{Account}
 use Rattle.dl_core.specs.Shown.{shown, rooms_of, memory_of, Rooms, Memory}
 use Rattle.dl_core.specs.Accounts.{shown_account, versions_in}

@@ -35,6 +35,7 @@ pub mod RunCounts
 pub mod PlacesFew
 pub mod FromKept
 pub mod BeginFits
+pub mod RunGoesOn
 pub mod Clearance
 pub mod HeapKept
 pub mod Fresh

@@ -1,5 +1,5 @@
 -- There are no more objects than places and roots.
-use Rattle.std.proofs.Common.{◌≡◌, ◌≢◌, ◌⊎◌, inl, inr, ℕ, zero, suc, ◌+◌, ◌-◌, ◌<◌, ◌≤◌, Bool, true, false, cond, List, [], ◌∷◌, length, filter, Option, Some, None, refl, sym, ap, subst, ◌∙◌, arith}
+use Rattle.std.proofs.Common.{◌≡◌, ℕ, ◌+◌, ◌<◌, ◌≤◌, Bool, true, false, cond, List, [], ◌∷◌, length, filter, refl, subst, arith}
 use Rattle.std.specs.Prelude.{nat_lt, nat_eq, ◌||◌}
 use Rattle.std.specs.List.{list_any, IsDistinct, AllByRecursion}
 use Rattle.std.specs.FinMap as finite
@@ -10,7 +10,6 @@ use Rattle.dl_ir.specs.declared.names.Name.{Name}
 use Rattle.dl_ir.specs.declared.objects.Obj.{Obj}
 use Rattle.dl_ir.specs.Heap.{Objects, IsHeapOf, HasStart, hidden_count}
 use Rattle.dl_ir.specs.declared.modules.Module.{Module}
-use Rattle.dl_core.specs.Heaps.{Heap, plain}
 use Rattle.dl_core.proofs.Maps.{names, AreEntries, IsNoKey, entries_are}
 use Rattle.dl_core.proofs.RootNumbers.{in_row}
 use Rattle.dl_core.proofs.Names.{no_bool}

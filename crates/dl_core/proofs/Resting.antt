@@ -1,5 +1,5 @@
 -- What holds of a frame that has no call in hand.
-use Rattle.std.proofs.Common.{◌≡◌, ℕ, ◌<◌, ◌≤◌, ◌^◌, List, [], ◌∷◌, length, Option, Some, None, refl, sym, ap, subst, ◌∙◌, arith}
+use Rattle.std.proofs.Common.{◌≡◌, List, [], ◌∷◌, length, Option, Some, None, refl, sym, ap, subst, ◌∙◌, arith}
 use Rattle.std.specs.Prelude.{get_or}
 use Rattle.std.specs.List.{zip}
 use Rattle.std.specs.FinMap as finite
@@ -12,7 +12,7 @@ use Rattle.dl_core.specs.declared.frames.Frame.{Frame as Kept}
 use Rattle.dl_core.specs.declared.stages.Booked.{Booked}
 use Rattle.dl_core.specs.Frames.{Book, no_call}
 use Rattle.dl_core.specs.LocalSteps.{GoesBackToTurns}
-use Rattle.dl_core.specs.Plans.{Plan, op_of, steps_of, roots_of, roots_among}
+use Rattle.dl_core.specs.Plans.{Plan, op_of, roots_of, roots_among}
 use Rattle.dl_core.specs.Shown.{shown, CanGoOn, HasTurns, AreTidy}
 use Rattle.dl_ir.specs.Heap.{name_cmp}
 

@@ -1,16 +1,15 @@
 -- How far the numbers of a run can rise.
-use Rattle.std.proofs.Common.{◌≡◌, ◌⊎◌, inl, inr, ℕ, zero, suc, ◌+◌, ◌-◌, ◌*◌, ◌<◌, ◌≤◌, ◌^◌, Bool, true, false, cond, List, [], ◌∷◌, length, get_or, refl, sym, ap, subst, ◌∙◌, arith}
-use Rattle.std.specs.Prelude.{sum_by, All, AllPairs, nat_lt, slice_get, if◌then◌else◌}
+use Rattle.std.proofs.Common.{◌≡◌, ◌⊎◌, inl, inr, ℕ, zero, suc, ◌+◌, ◌<◌, ◌≤◌, ◌^◌, true, false, cond, List, [], ◌∷◌, length, get_or, sym, subst, ◌∙◌, arith}
+use Rattle.std.specs.Prelude.{All, AllPairs, nat_lt}
 use Rattle.std.proofs.lemmas.List.{get_or_past}
 use Rattle.std.proofs.lemmas.List.Sums.{sum_by-le}
 use Rattle.std.proofs.lemmas.Option.{slice_get-get_or}
-use Rattle.dl_shape.specs.Replay.{greatest_ticket}
 use Rattle.dl_core.specs.declared.stages.Finished.{Finished}
 use Rattle.dl_core.specs.Core.{Core, Account, frame_of}
 use Rattle.dl_core.specs.Frames.{Frame, idle}
 use Rattle.dl_core.specs.Laws.{IsKept}
-use Rattle.dl_core.specs.Lawful.{entered_in, finished_in, one_if_entered, one_if_reserved}
-use Rattle.dl_core.specs.Plans.{Plan, IsPlan, IsCaller, size_of}
+use Rattle.dl_core.specs.Lawful.{one_if_entered, one_if_reserved}
+use Rattle.dl_core.specs.Plans.{Plan, IsPlan}
 use Rattle.dl_core.specs.Reached.{Calls, calls_of}
 use Rattle.dl_core.proofs.Names.{same_some}
 

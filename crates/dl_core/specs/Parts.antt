@@ -17,9 +17,8 @@ use Rattle.dl_core.specs.Frames.{Frame, at_rest}
 use Rattle.dl_core.specs.Heaps.{Heap}
 use Rattle.dl_core.specs.Needs.{CanTouch}
 use Rattle.dl_core.specs.LocalSteps.{due, IsReady}
-use Rattle.dl_core.specs.Laws.{IsKept}
 use Rattle.dl_core.specs.Plans.{Plan, IsPlan}
-use Rattle.dl_core.specs.Reached.{Calls}
+use Rattle.dl_core.specs.Reached.{Calls, IsReached}
 use Rattle.dl_core.specs.Shown.{shown, CanGoOn, HasTurns}
 
 -- the state that has these parts
@@ -108,7 +107,7 @@ pub record IsInRun (code : Code) (heap : Rows Object) (frames : List Kept) (coun
   pub code_is : plan.code ≡ code
   pub is : IsPlan plan
   pub calls : Calls
-  pub kept : IsKept plan (core_of heap frames counters) calls
+  pub reached : IsReached plan (core_of heap frames counters) calls
   pub turns : HasTurns code
   pub room : plan.places + 1024 ≤ heap.room
   pub can : (at : ℕ) (frame : Kept) → slice_get frames at ≡ Some frame → CanGoOn code frame

@@ -13,6 +13,7 @@ ghost use Rattle.dl_core.specs.Frames.{Frame as Pure, idle};
 ghost use Rattle.dl_core.specs.LocalSteps.{due as due_in};
 ghost use Rattle.dl_core.specs.Parts.{core_by, core_of, CanStep, CanAdvance, CanBegin, IsInRun, StandsReady};
 ghost use Rattle.dl_core.specs.Plans.{Plan};
+ghost use Rattle.dl_core.specs.Reached.{Calls, IsReached};
 ghost use Rattle.dl_core.specs.Shown.{shown, memory_of, CanGoOn, HasTurns};
 
 use crate::answers::Progress;
@@ -118,6 +119,7 @@ pub fn advance(
     requires from_one { 0 < caller }
     requires within { caller < length frames.old.items }
     ensures stepped { (plan : Plan) → plan.code ≡ code.now → stepped plan (core_of heap.old frames.old.items counters.old) caller ≡ (core_of heap.new frames.new.items counters.new, result) }
+    ensures reached { (plan : Plan) (calls : Calls) → plan.code ≡ code.now → IsReached plan (core_of heap.old frames.old.items counters.old) calls → IsReached plan (core_of heap.new frames.new.items counters.new) calls }
     ensures frames { (before : Kept) → slice_get frames.old.items caller ≡ Some before → (after : Kept) × (frames.new.items ≡ set frames.old.items caller after) × CanGoOn code.now after × (memory_of after ≡ memory_of before) }
     ensures room { heap.new.room ≡ heap.old.room }
 {

@@ -1,5 +1,4 @@
 use Rattle.std.proofs.Common.{ℕ, ℤ, ap}
-use Rattle.dl_ir.specs.declared.calls.Call.{Call}
 use Rattle.dl_ir.specs.declared.names.Name.{Name}
 use Rattle.dl_ir.specs.declared.names.Value.{Value}
 use Rattle.dl_core.specs.Rooms.{Roomed}

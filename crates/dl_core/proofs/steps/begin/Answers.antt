@@ -1,11 +1,12 @@
-use Rattle.std.proofs.Common.{Some, sym, ap, subst, ◌∙◌}
+use Rattle.std.proofs.Common.{sym, ap, subst, ◌∙◌}
 use Rattle.std.proofs.lemmas.List.{get_or-map}
 use Rattle.std.proofs.lemmas.Option.{slice_get_within, get_or_from_slice_get}
 use Rattle.dl_ir.specs.CallForms.{IsCallOf}
 use Rattle.dl_instr.specs.declared.code.Code.{Code}
 use Rattle.dl_core.specs.Frames.{idle}
-use Rattle.dl_core.specs.Parts.{CanBegin}
+use Rattle.dl_core.specs.Parts.{CanBegin, core_of}
 use Rattle.dl_core.specs.Shown.{shown, CanGoOn}
+use Rattle.dl_core.proofs.LawfulAlways.{lawful_always}
 use Rattle.dl_core.proofs.BeginFits.{can_begin}
 use Rattle.dl_core.proofs.steps.begin.Goals as goal
 
@@ -16,7 +17,7 @@ begin_by-requires-clause-may c frame there =
     let run = c.requires.run.2 in
     let frames = c.args.frames.now.items in
     subst (λ (code : Code). CanBegin code frame c.args.call.now) run.code_is
-    (can_begin run.plan heap frames counters run.calls c.args.caller frame run.is run.kept
+    (can_begin run.plan heap frames counters run.calls c.args.caller frame run.is (lawful_always run.plan (core_of heap frames counters) run.calls run.is run.reached)
     (get_or-map shown frames c.args.caller frame idle (slice_get_within frames c.args.caller frame there) ∙ ap shown (get_or_from_slice_get frames c.args.caller frame frame there))
     (run.memory c.args.caller frame there) (subst (λ (code : Code). CanGoOn code frame) (sym run.code_is) (run.can c.args.caller frame there)) (c.requires.idle frame there) c.args.call.now
     (subst (λ (code : Code). IsCallOf code.source c.args.call.now) (sym run.code_is) c.requires.fits))

@@ -1,10 +1,10 @@
-use Rattle.std.proofs.Common.{◌≡◌, length, List, Some, map, set, refl, sym, ap, ◌∙◌}
+use Rattle.std.proofs.Common.{◌≡◌, length, Some, map, set, refl, sym, ap, ◌∙◌}
 use Rattle.std.specs.Prelude.{slice_get, get_or}
 use Rattle.std.proofs.lemmas.List.{map-set, get_or-map, set-get_or}
 use Rattle.std.proofs.lemmas.Option.{slice_get_read}
-use Rattle.dl_core.specs.Core.{Account, no_account}
+use Rattle.dl_core.specs.Core.{no_account}
 use Rattle.dl_core.specs.Events.{begun}
-use Rattle.dl_core.specs.Frames.{Frame, idle}
+use Rattle.dl_core.specs.Frames.{idle}
 use Rattle.dl_core.specs.Accounts.{shown_account}
 use Rattle.dl_core.specs.Parts.{core_by}
 use Rattle.dl_core.specs.Shown.{shown, memory_of}

@@ -1,4 +1,4 @@
-use Rattle.std.proofs.Common.{ap, sym, ◌∙◌}
+use Rattle.std.proofs.Common.{ap, ◌∙◌}
 use Rattle.dl_core.specs.LocalSteps.{due}
 use Rattle.dl_core.specs.Shown.{shown}
 use Rattle.dl_core.proofs.KeptSame.{kept_same}
