@@ -1,9 +1,10 @@
 -- Files that are read one after another.
-use Rattle.std.proofs.Common.{◌≡◌, ℕ, ◌+◌, ◌<◌, List, [], ◌∷◌, ◌++◌, Option, Some, take, length, refl, sym, ◌∙◌, ap, subst, get_or, Global, add-one}
-use Rattle.std.specs.Prelude.{All, slice_get, IfSome, Contains, map, option_map, string_bytes, String}
+use Rattle.std.proofs.Common.{◌≡◌, ℕ, ◌+◌, ◌<◌, List, [], ◌∷◌, ◌++◌, Option, Some, take, length, refl, sym, ◌∙◌, ap, subst, get_or, add-one, suc}
+use Rattle.std.specs.Prelude.{All, slice_get, IfSome, Contains, map, option_map}
 use Rattle.std.specs.List.{take-map}
 use Rattle.std.proofs.lemmas.Option.{slice_get-map, slice_get_read}
-use Rattle.std.proofs.lemmas.List.{take_more, map-append}
+use Rattle.std.specs.Borrow.{Bor}
+use Rattle.std.proofs.lemmas.List.{get_or_default, take_more, map-append}
 use Rattle.std.proofs.Math.Nat.{le_trans}
 use Rattle.dl_io.specs.Source.{Source, SameFiles, Tells}
 use Rattle.dl_ir.specs.declared.modules.Module.{Module}
@@ -84,19 +85,31 @@ no_calls_before after (NoCalls.no_memory is within) = NoCalls.no_memory is withi
 no_calls_before {path = path} after (NoCalls.at_fault line why text is told short is_fault within) =
     NoCalls.at_fault line why text is (told_before path text after.same told) short is_fault within
 
--- the word at a place
-pub word_at : (words : List (String Global)) (i : ℕ) (word : String Global) → i < length words → word ≡ get_or words i word →
-    slice_get (map string_bytes words) i ≡ Some (string_bytes word)
-word_at words i word within is = slice_get-map string_bytes words i ∙ ap (option_map string_bytes) (slice_get_read words (length words) i word refl within is)
+-- what a list of paths has past its end
+abbrev pub no_path : Bor Text
+no_path = record { ref_ptr = (0, 0); now = [] }
 
--- the words up to and with the one at a place
-pub words_to : (words : List (String Global)) (i : ℕ) (word : String Global) → i < length words → word ≡ get_or words i word →
-    take (i + 1) (map string_bytes words) ≡ take i (map string_bytes words) ++ string_bytes word ∷ []
-words_to words i word within is =
-    take-map string_bytes (i + 1) words
-    ∙ ap (map string_bytes) (take_more words i word within ∙ ap (λ w. take i words ++ w ∷ []) (sym is))
-    ∙ map-append string_bytes (take i words) (word ∷ [])
-    ∙ ap (λ ws. ws ++ string_bytes word ∷ []) (sym (take-map string_bytes i words))
+-- the path at a place
+pub word_at : (paths : List (Bor Text)) (i : ℕ) → i < length paths → slice_get (map (λ path. path.now) paths) i ≡ Some (get_or paths i no_path).now
+word_at paths i within =
+    slice_get-map (λ path. path.now) paths i
+    ∙ ap (option_map (λ path. path.now)) (slice_get_read paths (length paths) i (get_or paths i no_path) refl within (get_or_default paths i no_path (get_or paths i no_path) within))
+
+-- the paths up to and with the one at a place
+pub words_to : (paths : List (Bor Text)) (i : ℕ) → i < length paths →
+    take (i + 1) (map (λ path. path.now) paths) ≡ take i (map (λ path. path.now) paths) ++ (get_or paths i no_path).now ∷ []
+words_to paths i within =
+    take-map (λ path. path.now) (i + 1) paths
+    ∙ ap (map (λ path. path.now)) (take_more paths i no_path within)
+    ∙ map-append (λ path. path.now) (take i paths) (get_or paths i no_path ∷ [])
+    ∙ ap (λ ws. ws ++ (get_or paths i no_path).now ∷ []) (sym (take-map (λ path. path.now) i paths))
+
+-- as many files as paths
+pub files_length : (source : Module) (files : Source) (paths : List Text) (all : List (List Call)) → AreFiles source files paths all → length all ≡ length paths
+files_length source files [] [] are = refl
+files_length source files [] (c ∷ all) are = elim are [ ]
+files_length source files (p ∷ paths) [] are = elim are [ ]
+files_length source files (p ∷ paths) (c ∷ all) are = ap suc (files_length source files paths all are.1)
 
 -- files that are as they should be later are so before
 pub files_before : (source : Module) (start now : Source) (paths : List Text) (all : List (List Call)) → SameFiles start now → AreFiles source now paths all → AreFiles source start paths all

@@ -128,6 +128,7 @@ printed_whole statuses.Memory text before after prints works = absurd prints
 module _ {words : List Text} {old new : Source} {before after : Taken} {status : Status} {history : Seen} {refusals : List Refusal} where
   pub ends_as_told : Ends words old new before after status history refusals → (task : Task) → task_of_words words ≡ Some task → EndsAsTold old task status
   ends_as_told (Ends.usage is none same same_taken no_history no_refusals) task is_task file answer calls = absurd (cc)
+  ends_as_told (Ends.unread is same same_taken no_history no_refusals) task is_task file answer calls = EndsWith.no_memory is
   ends_as_told (Ends.refused found is_found cause same_taken no_history no_refusals) task is_task file answer calls =
       let same : found ≡ task = cc in
       stopped_ends (subst (λ t. Refuses t old new status) same cause) file answer calls
@@ -139,6 +140,7 @@ module _ {words : List Text} {old new : Source} {before after : Taken} {status :
   pub ends_complete : Ends words old new before after status history refusals → (task : Task) → task_of_words words ≡ Some task → IsInOrder old task →
       (Rose before.faults after.faults → ⊥) → (status ≡ statuses.Done) ⊎ (status ≡ statuses.Memory)
   ends_complete (Ends.usage is none same same_taken no_history no_refusals) task is_task order works = absurd (cc)
+  ends_complete (Ends.unread is same same_taken no_history no_refusals) task is_task order works = inr is
   ends_complete (Ends.refused found is_found cause same_taken no_history no_refusals) task is_task order works =
       let same : found ≡ task = cc in
       inr (stopped_in_order (subst (λ t. Refuses t old new status) same cause) order)

@@ -89,10 +89,12 @@ pub data Finishes (verb : Verb) (tree : Tree) (source : Module) (all : List (Lis
   wrote : (text : Text) → Writes verb tree source all places history refusals text → Prints status text taken_before taken_after
       → Finishes verb tree source all places taken_before taken_after status history refusals
 
--- how a call ends: the words are no command, or the files are refused, or memory runs out, or what the command writes is
+-- how a call ends: the words are no command, or memory runs out while they are read, or the files are refused, or memory runs out, or what the command writes is
 -- written as far as the sink takes it
 pub data Ends (words : List Text) (old new : Source) (taken_before taken_after : Taken) (status : Status) (history : Seen) (refusals : List Refusal) : Type 0 where
   usage : status ≡ statuses.Usage → task_of_words words ≡ None → new ≡ old → taken_after ≡ taken_before → history ≡ nothing_done → refusals ≡ []
+      → Ends words old new taken_before taken_after status history refusals
+  unread : status ≡ statuses.Memory → new ≡ old → taken_after ≡ taken_before → history ≡ nothing_done → refusals ≡ []
       → Ends words old new taken_before taken_after status history refusals
   refused : (task : Task) → task_of_words words ≡ Some task → Refuses task old new status → taken_after ≡ taken_before → history ≡ nothing_done → refusals ≡ []
       → Ends words old new taken_before taken_after status history refusals

@@ -36,6 +36,10 @@ pub record AfterReading (old new : Source) : Type 0 where
 abbrev pub IsWithin : Source → Type 0
 IsWithin source = (file : ℕ) → source.attached ≡ Some file → source.given ≤ limit_of file
 
+-- memory ran out before a file was attached
+abbrev pub IsUnread : Source → Source → Status → Type 0
+IsUnread old new status = (status ≡ statuses.Memory) × (new ≡ old)
+
 -- why a file was not read, as a status
 abbrev pub ReadCause : Status → ℕ → List ℕ → Source → Source → Type 0
 ReadCause (statuses.ReadFault f) file path old new = (f ≡ file) × Fails file path old new × IsWithin new

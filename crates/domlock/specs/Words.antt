@@ -1,10 +1,22 @@
--- Which words are a command.
-use Rattle.std.specs.Prelude.{ℕ, ◌==◌, List, [], ◌∷◌, map, string_bytes, Option, Some, None, codes, bytes_eq, slice_get, if◌then◌else◌}
-use Rattle.std.specs.Option.{option_map}
-use Rattle.dl_syntax.specs.Line.{digits_of, at_most}
+-- Which words are a command, over what the library `clap` makes of them: the command line, and the table of commands.
+use Rattle.std.specs.Prelude.{◌≡◌, ℕ, ◌==◌, ◌-◌, ◌^◌, nat_lt, true, List, [], ◌∷◌, length, map, find, fold, pos, Option, Some, None, codes, bytes_eq, slice_get, unwrap_or, if◌then◌else◌}
+use Rattle.std.specs.Prelude.{option_map, option_and_then}
+use Rattle.std.specs.Str.Parse.{digits_value, without_leading_plus}
+use Rattle.clap.specs.ValueTests.{is_unsigned_in}
+use Rattle.clap.specs.Words.{App, Kinds, Row, Rule, all_of, fault_of, first_of, matches_of, new_app, new_rule, one_of, with_rule}
+use Rattle.clap.specs.Simple.{on_top}
+use Rattle.clap.specs.declared.builder.action.ArgAction.TheVariants.{Append}
+use Rattle.clap.specs.declared.builder.value_parser.ValueParser.{ValueParser}
+use Rattle.clap.specs.declared.builder.value_parser.ValueParser.TheVariants as parsers
+use Rattle.domlock.specs.declared.status.Status.{Status}
+use Rattle.domlock.specs.declared.status.Status.TheVariants as statuses
 use Rattle.domlock.specs.declared.words.Command.{Command}
+use Rattle.domlock.specs.declared.words.CommandRow.{CommandRow}
+use Rattle.domlock.specs.declared.words.Line.{Line as Held}
 use Rattle.domlock.specs.declared.words.Verb.{Verb}
 use Rattle.domlock.specs.declared.words.Verb.TheVariants as verbs
+use Rattle.domlock.specs.declared.words.WordsFault.{WordsFault}
+use Rattle.domlock.specs.declared.words.WordsFault.TheVariants as faults
 
 -- a word, as its bytes
 abbrev pub Text : Type 0
@@ -18,39 +30,102 @@ pub record Task : Type 0 where
   pub rest : List Text
   pub places : ℕ
 
--- a number of places is not 0
-abbrev pub above_zero : Option ℕ → Option ℕ
-above_zero None = None
-above_zero (Some n) = if n == 0 then None else Some n
+-- the word that says what to do
+abbrev pub command_rule : Rule
+command_rule = record (new_rule (codes "COMMAND")) { required = true }
 
--- the number of places that a word says: decimal digits of a value from 1 to 65,536
-abbrev pub places_in : Text → Option ℕ
-places_in word = above_zero (at_most 65536 (digits_of word))
+-- the word behind it
+abbrev pub first_rule : Rule
+first_rule = record (new_rule (codes "FIRST")) { required = true }
 
--- the number of places that the last words say: 4,096 where there are none, and else they are a pair `--places N`
-abbrev pub places_of : List Text → Option ℕ
-places_of [] = Some 4096
-places_of (option ∷ number ∷ []) = if bytes_eq option (codes "--places") then places_in number else None
-places_of _ = None
+-- all further words
+abbrev pub rest_rule : Rule
+rest_rule = record (new_rule (codes "REST")) { action = Some Append }
 
--- the words behind `serial`: a module, one operation file, and the words on places
-abbrev pub serial_task : List Text → Option Task
-serial_task (first ∷ calls ∷ last) =
-    option_map (λ places. record { verb = verbs.Serial; first = first; rest = calls ∷ []; places = places }) (places_of last)
-serial_task _ = None
+-- the numbers that the option takes
+abbrev pub places_parser : ValueParser
+places_parser = parsers.Signed (pos 1) (pos 65536)
 
--- the words behind `show`: a module, and the words on places
-abbrev pub show_task : List Text → Option Task
-show_task (first ∷ last) = option_map (λ places. record { verb = verbs.Show; first = first; rest = []; places = places }) (places_of last)
-show_task _ = None
+-- the option `--places N`: a number from 1 to 65,536, and 4,096 where the option is not given
+abbrev pub places_rule : Rule
+places_rule = record (new_rule (codes "places")) {
+  long = Some (codes "places");
+  parser = Some places_parser;
+  defaults = codes "4096" ∷ [];
+}
+
+-- what the words may be: the three kinds of words in this order, and the options
+abbrev pub rules : List Rule
+rules = command_rule ∷ first_rule ∷ rest_rule ∷ places_rule ∷ []
+
+-- the command line, which the program's name is no part of
+abbrev pub command_line : App
+command_line = fold with_rule (on_top (λ shape. record shape { no_binary_name = true }) (new_app (codes "domlock"))) rules
+
+-- what the command line gives: the words in their order, and the number of the option
+pub record Line : Type 0 where
+  pub command : Text
+  pub first : Text
+  pub rest : List Text
+  pub places : ℕ
+
+-- the number that a text says, where 32 bits hold it
+abbrev pub number_of : Text → Option ℕ
+number_of text = if is_unsigned_in 0 (2 ^ 32 - 1) text then Some (digits_value 10 (without_leading_plus text)) else None
+
+-- what the matches of the command line give
+abbrev pub line_of_matches : List Row → Option Line
+line_of_matches rows = option_and_then (λ command. option_and_then (λ first. option_map (λ places. record {
+  command = command;
+  first = first;
+  rest = unwrap_or (all_of (codes "REST") rows) [];
+  places = places;
+}) (option_and_then number_of (one_of (codes "places") rows))) (first_of (codes "FIRST") rows)) (first_of (codes "COMMAND") rows)
+
+-- the table of commands, a row each: the word COMMAND, what it asks for, and how many words REST has at least and at most;
+-- they are `serial MODULE OPERATIONS` and `show MODULE`
+abbrev pub table : List (Text × CommandRow)
+table =
+    (codes "serial", record { verb = verbs.Serial; fewest = 1; most = 1 })
+    ∷ (codes "show", record { verb = verbs.Show; fewest = 0; most = 0 })
+    ∷ []
+
+-- the row of a word
+abbrev pub row_of : Text → Option CommandRow
+row_of word = option_map (λ row. row.1) (find (λ row. bytes_eq row.0 word) table)
+
+-- the command that a row gives, where REST has as many words as the row asks for
+abbrev pub task_by : Line → CommandRow → Option Task
+task_by line row =
+    if nat_lt (length line.rest) row.fewest then None
+    else if nat_lt row.most (length line.rest) then None
+    else Some (record { verb = row.verb; first = line.first; rest = line.rest; places = line.places })
+
+-- the command that the table has for what the words give
+abbrev pub task_of_line : Line → Option Task
+task_of_line line = option_and_then (task_by line) (row_of line.command)
+
+-- the command that the matches of the command line give
+abbrev pub task_of_matches : List Row → Option Task
+task_of_matches rows = option_and_then task_of_line (line_of_matches rows)
+
+-- the command, unless the command line has something against the words
+abbrev pub unless_refused : Kinds → Option Task → Option Task
+unless_refused [] task = task
+unless_refused (kind ∷ kinds) task = None
 
 -- the command that the words give, where they are good
 abbrev pub task_of_words : List Text → Option Task
-task_of_words (command ∷ words) =
-    if bytes_eq command (codes "serial") then serial_task words
-    else if bytes_eq command (codes "show") then show_task words
-    else None
-task_of_words _ = None
+task_of_words words = unless_refused (fault_of command_line words) (task_of_matches (matches_of command_line words))
+
+-- the words are good: the command line takes them, and they are as the table of commands says
+abbrev pub IsGood : List Text → Type 0
+IsGood words = (task : Task) × (task_of_words words ≡ Some task)
+
+-- the status of a call whose words give no command
+abbrev pub status_of : WordsFault → Status
+status_of faults.Usage = statuses.Usage
+status_of faults.Memory = statuses.Memory
 
 -- the path of a file of a command; the module is file 0
 abbrev pub path_of : Task → ℕ → Option Text
@@ -60,6 +135,10 @@ path_of task file = slice_get (task.first ∷ task.rest) file
 abbrev pub limit_of : ℕ → ℕ
 limit_of file = if file == 0 then 262144 else 4194304
 
+-- what the command line gives, as the program holds it
+abbrev pub line_held : Held → Line
+line_held line = record { command = line.command.now; first = line.first.now; rest = map (λ word. word.now) line.rest.items; places = line.places }
+
 -- a command as the program holds it
 abbrev pub task_of : Command → Task
-task_of command = record { verb = command.verb; first = command.first.now; rest = map string_bytes command.rest.now; places = command.places }
+task_of command = record { verb = command.verb; first = command.first.now; rest = map (λ path. path.now) command.rest.items; places = command.places }

@@ -1,6 +1,6 @@
 //! Reading the files of a command: the module and its calls, or why they are refused.
 
-ghost use Rattle.std.specs.Prelude.{◌≡◌, ◌<◌, ◌≤◌, map, All, IfOk, IfErr, OnOk, length, string_bytes};
+ghost use Rattle.std.specs.Prelude.{◌≡◌, ◌<◌, ◌≤◌, map, All, IfOk, IfErr, OnOk, length};
 ghost use Rattle.dl_ir.specs.CallForms.{AreCallsOf};
 ghost use Rattle.dl_ir.specs.Checked.{IsChecked};
 ghost use Rattle.domlock.specs.Causes.{NoModule, NoCalls, Refuses};
@@ -185,20 +185,20 @@ fn read_all_calls<F: Files>(
     alloc: Global,
     files: &mut F,
     source: &Module,
-    paths: &[String],
+    paths: &[&str],
 ) -> Result<Vec<Calls>, Status>
     requires few_ops { length source.now.ops ≤ 64 }
     requires few { length paths.now ≤ 64 }
     requires within { IsWithin (F.source files.old) }
-    ensures ok { IfOk result (λ all. AreFiles source.now (F.source files.old) (map string_bytes paths.now) all.items) }
+    ensures ok { IfOk result (λ all. AreFiles source.now (F.source files.old) (map (λ path. path.now) paths.now) all.items) }
     ensures calls { IfOk result (λ all. All (AreCallsOf source.now) all.items) }
     ensures within { OnOk result (IsWithin (F.source files.new)) }
-    ensures cause { IfErr result (StopsAt source.now (map string_bytes paths.now) (F.source files.old) (F.source files.new)) }
+    ensures cause { IfErr result (StopsAt source.now (map (λ path. path.now) paths.now) (F.source files.old) (F.source files.new)) }
     ensures after { AfterReading (F.source files.old) (F.source files.new) }
 {
     let mut all = Vec::new(alloc);
     'paths: for (i, path) in paths.iter().enumerate() {
-        match read_calls_file(alloc, files, source, i as u32 + 1, path.as_str()) {
+        match read_calls_file(alloc, files, source, i as u32 + 1, path) {
             Ok(calls) => {
                 match all.push(calls) {
                     Ok(()) => {}
@@ -225,7 +225,7 @@ pub fn read_input<F: Files>(
     files: &mut F,
     command: &Command<'_>,
 ) -> Result<Input, Status>
-    requires { length command.now.rest.now ≤ 64 }
+    requires { length command.now.rest.items ≤ 64 }
     ensures spells { IfOk result (λ input. Spells (F.source files.old) (task_of command.now) input.tree input.source input.all.items) }
     ensures checked { IfOk result (λ input. IsChecked input.source) }
     ensures calls { IfOk result (λ input. All (AreCallsOf input.source) input.all.items) }
@@ -237,7 +237,7 @@ pub fn read_input<F: Files>(
         Ok(parsed) => parsed,
         Err(status) => return Err(status),
     };
-    match read_all_calls(alloc, files, &source, command.rest) {
+    match read_all_calls(alloc, files, &source, command.rest.as_slice()) {
         Ok(all) => Ok(Input { tree, source, all }),
         Err(status) => Err(status),
     }

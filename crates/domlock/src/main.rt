@@ -14,25 +14,39 @@ mod status;
 #[cfg(test)]
 mod tests;
 mod top;
+#[cfg(test)]
+mod word_tests;
 mod words;
 
 use dl_io::{RealFiles, RealSink};
 use dl_text::Out;
-use status::{Status, exit_code, status_line};
-use std::io;
+use status::{exit_code, status_line};
+use std::io::ErrorKind;
 use std::process::ExitCode;
 use top::domlock_still;
-use words::Words;
+use words::{Words, WordsFault};
 
-// The words behind the program's name.
-fn read_words(rt: &HostRuntime) -> Result<Words, io::Error> {
+// The words behind the program's name. A word that is no UTF-8 is no good word.
+fn read_words(rt: &HostRuntime) -> Result<Words, WordsFault> {
+    let args = match std::env::args(rt) {
+        Ok(args) => args,
+        Err(error) => return Err(fault_of_args(error.kind())),
+    };
     let mut items = Vec::new(rt.alloc());
-    for (i, word) in std::env::args(rt)?.enumerate() {
-        if i > 0 {
-            items.push(word)?;
+    for (i, word) in args.enumerate() {
+        if i > 0 && items.push(word).is_err() {
+            return Err(WordsFault::Memory);
         }
     }
     Ok(Words::new(items))
+}
+
+// Why the words could not be taken from the system.
+fn fault_of_args(kind: ErrorKind) -> WordsFault {
+    match kind {
+        ErrorKind::InvalidData => WordsFault::Usage,
+        _ => WordsFault::Memory,
+    }
 }
 
 fn main(rt: HostRuntime) -> ExitCode {
@@ -42,7 +56,7 @@ fn main(rt: HostRuntime) -> ExitCode {
             let mut sink = RealSink::new(rt.stdout());
             domlock_still(rt.alloc(), &words, &mut files, &mut sink).status
         }
-        Err(_) => Status::Memory,
+        Err(fault) => fault.status(),
     };
     let mut out = Out::new();
     let mut errors = RealSink::new(rt.stderr());

@@ -7,8 +7,9 @@ ghost use Rattle.dl_ir.specs.CallForms.{AreCallsOf};
 ghost use Rattle.dl_ir.specs.Checked.{IsChecked};
 ghost use Rattle.domlock.specs.Causes.{Refuses, Cut};
 ghost use Rattle.domlock.specs.Promise.{Ran, Finishes, Ends, nothing_done};
+ghost use Rattle.domlock.specs.Reading.{IsUnread};
 ghost use Rattle.domlock.specs.Told.{EndsAsTold, IsInOrder};
-ghost use Rattle.domlock.specs.Words.{Task, limit_of, task_of_words};
+ghost use Rattle.domlock.specs.Words.{IsGood, Task, limit_of, task_of_words};
 
 use crate::loading::{Input, read_input};
 use crate::run::{run_input, write_run};
@@ -78,8 +79,9 @@ fn show<K: Sink>(alloc: Global, input: &Input, out: &mut K) -> Outcome
 fn run_still<F: Files, K: Sink>(alloc: Global, words: &Words, files: &mut F, out: &mut K) -> Outcome
     ensures { Ends words.now (F.source files.old) (F.source files.new) (K.taken out.old) (K.taken out.new) result.status result.history result.refusals }
 {
-    let Some(command) = command_of(words) else {
-        return nothing(alloc, Status::Usage);
+    let command = match command_of(alloc, words) {
+        Ok(command) => command,
+        Err(fault) => return nothing(alloc, fault.status()),
     };
     let input = match read_input(alloc, files, &command) {
         Ok(input) => input,
@@ -110,10 +112,13 @@ pub fn domlock_still<F: Files, K: Sink>(
     // Else nothing was written.
     ensures nothing { result.status ≢ Status.Done → result.status ≢ Status.WriteFault →
         (K.taken out.new ≡ K.taken out.old) × (result.history ≡ nothing_done) × (result.refusals ≡ []) }
-    ensures usage { result.status ≡ Status.Usage ↔ (task_of_words words.now ≡ None) }
+    ensures usage { result.status ≡ Status.Usage → ¬ IsGood words.now }
 
-    // Each other refusal has its cause.
-    ensures causes { result.status ≢ Status.Done → result.status ≢ Status.WriteFault → result.status ≢ Status.Usage →
+    // Where the words are not good, no file is touched, and nothing else is answered unless memory runs out.
+    ensures bad_words { ¬ IsGood words.now → ((result.status ≡ Status.Usage) ⊎ (result.status ≡ Status.Memory)) × (F.source files.new ≡ F.source files.old) }
+
+    // Each other refusal has its cause, and want of memory needs none.
+    ensures causes { result.status ≢ Status.Done → result.status ≢ Status.WriteFault → result.status ≢ Status.Usage → result.status ≢ Status.Memory →
         (task : Task) × (task_of_words words.now ≡ Some task) × Refuses task (F.source files.old) (F.source files.new) result.status }
 
     // Where what the files tell calls for a refusal, it is answered, unless a file can't be read or memory runs out.
@@ -123,13 +128,13 @@ pub fn domlock_still<F: Files, K: Sink>(
     ensures complete { (task : Task) → task_of_words words.now ≡ Some task → IsInOrder (F.source files.old) task →
         ¬ Rose (K.taken out.old).faults (K.taken out.new).faults → (result.status ≡ Status.Done) ⊎ (result.status ≡ Status.Memory) }
 
-    // Where more than a file's limit was taken of it, nothing else is answered. Files are attached where the words are a command.
-    ensures too_long { (task : Task) → task_of_words words.now ≡ Some task → (file : ℕ) → (F.source files.new).attached ≡ Some file →
-        limit_of file < (F.source files.new).given → result.status ≡ Status.TooLong file }
+    // Where more than a file's limit was taken of it, nothing else is answered, unless memory runs out before a file is attached.
+    ensures too_long { IsGood words.now → (file : ℕ) → (F.source files.new).attached ≡ Some file → limit_of file < (F.source files.new).given →
+        (result.status ≡ Status.TooLong file) ⊎ IsUnread (F.source files.old) (F.source files.new) result.status }
 
     // Of no file more than one byte over its limit is taken.
-    ensures at_most { (task : Task) → task_of_words words.now ≡ Some task → (file : ℕ) → (F.source files.new).attached ≡ Some file →
-        (F.source files.new).given ≤ limit_of file + 1 }
+    ensures at_most { IsGood words.now → (file : ℕ) → (F.source files.new).attached ≡ Some file →
+        ((F.source files.new).given ≤ limit_of file + 1) ⊎ IsUnread (F.source files.old) (F.source files.new) result.status }
 {
     run_still(alloc, words, files, out)
 }

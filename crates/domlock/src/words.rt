@@ -1,10 +1,15 @@
-//! The words behind the program's name, and the command that they give.
+//! The words behind the program's name: the command line that `clap` reads, and the table of commands.
 
-ghost use Rattle.std.specs.Prelude.{◌≡◌, ◌≤◌, map, option_map, string_bytes, IfSome, length};
+ghost use Rattle.std.specs.Prelude.{◌≡◌, ◌≢◌, ◌≤◌, map, option_map, string_bytes, Some, None, IfOk, IsErrOf, length};
+ghost use Rattle.std.specs.Prelude.{[], codes, unwrap_or};
+ghost use Rattle.clap.specs.Words.{all_of, app_of, found_of, rows_of};
 ghost use Rattle.domlock.specs.Words as spec;
 ghost use Rattle.domlock.specs.Words.{task_of, task_of_words};
 
-use dl_syntax::digits_up_to;
+use crate::status::Status;
+use clap::error::ErrorKind;
+use clap::{Arg, ArgAction, ArgMatches};
+use std::alloc::{AllocError, Global};
 use std::marker::Model;
 
 /// The words behind the program's name.
@@ -47,89 +52,186 @@ pub enum Verb {
 }
 
 /// What the program is to do, with the path of the module and those of the files behind it.
-#[derive(Clone, Copy)]
+#[derive(Drop)]
 pub struct Command<'a> {
     pub verb: Verb,
     pub first: &'a str,
-    pub rest: &'a [String],
+    pub rest: Vec<&'a str>,
     /// How many hidden objects there may be at a time.
     pub places: u32,
 }
 
-// The number of places that a word says.
-fn places_in(word: &str) -> Option<u32>
-    ensures value { result ≡ spec.places_in word.now }
-    ensures range { IfSome result (λ places. (1 ≤ places) × (places ≤ 65536)) }
-{
-    match digits_up_to(word.as_bytes(), 65_536)? {
-        0 => None,
-        places => Some(places as u32),
-    }
+/// Why words give no command.
+#[derive(Clone, Copy, Debug, PartialEq, Eq)]
+pub enum WordsFault {
+    /// They are not good.
+    Usage,
+    /// Memory ran out while they were read.
+    Memory,
 }
 
-// The number of places that the last words of a command say.
-fn places_of(last: &[String]) -> Option<u32>
-    ensures value { result ≡ spec.places_of (map string_bytes last.now) }
-    ensures range { IfSome result (λ places. (1 ≤ places) × (places ≤ 65536)) }
-{
-    match last {
-        [] => Some(4_096),
-        [option, number] if option.as_str() == "--places" => places_in(number.as_str()),
-        _ => None,
-    }
-}
-
-// The command that the words behind `serial` give.
-fn serial_command(words: &[String]) -> Option<Command<'_>>
-    ensures value { option_map task_of result ≡ spec.serial_task (map string_bytes words.now) }
-    ensures one { IfSome result (λ command. length command.rest.now ≡ 1) }
-    ensures places { IfSome result (λ command. (1 ≤ command.places) × (command.places ≤ 65536)) }
-{
-    match words {
-        [first, _, last @ ..] => {
-            let places = places_of(last)?;
-            Some(Command {
-                verb: Verb::Serial,
-                first: first.as_str(),
-                rest: &words[1..2],
-                places,
-            })
+impl WordsFault {
+    /// The status of a call that ends with this fault.
+    pub fn status(self) -> Status
+        ensures { result ≡ spec.status_of self }
+    {
+        match self {
+            WordsFault::Usage => Status::Usage,
+            WordsFault::Memory => Status::Memory,
         }
+    }
+}
+
+// What the command line gives.
+#[derive(Drop)]
+struct Line<'a> {
+    command: &'a str,
+    first: &'a str,
+    rest: Vec<&'a str>,
+    places: u32,
+}
+
+// A row of the table of commands: what its word asks for, and how many words REST has at least and at most.
+#[derive(Clone, Copy)]
+struct CommandRow {
+    verb: Verb,
+    fewest: usize,
+    most: usize,
+}
+
+// The command line: COMMAND, FIRST, any number of words REST, and `--places N` anywhere among them.
+fn command_line<'a>(alloc: Global) -> Result<clap::Command<'a>, AllocError>
+    ensures { IfOk result (λ line. app_of line ≡ spec.command_line) }
+{
+    let command = Arg::new(alloc, "COMMAND").required(true);
+    let first = Arg::new(alloc, "FIRST").required(true);
+    let rest = Arg::new(alloc, "REST").action(ArgAction::Append);
+    let places = Arg::new(alloc, "places")
+        .long("places")
+        .value_parser(clap::value_parser!(u32).range(1..=65_536))
+        .default_value("4096");
+    let line = clap::Command::new(alloc, "domlock").no_binary_name(true);
+    let line = line.arg(command)?;
+    let line = line.arg(first)?;
+    let line = line.arg(rest)?;
+    Ok(line.arg(places)?)
+}
+
+// The words REST of the command line.
+fn rest_of<'a>(alloc: Global, matches: &ArgMatches<'a>) -> Result<Vec<&'a str>, AllocError>
+    ensures { IfOk result (λ rest. map (λ word. word.now) rest.items ≡ unwrap_or (all_of (codes "REST") (rows_of (found_of matches.now))) []) }
+{
+    match matches.get_strs("REST") {
+        Some(rest) => Vec::from_slice(alloc, rest),
+        None => Ok(Vec::new(alloc)),
+    }
+}
+
+// What the matches of the command line give.
+fn line_of<'a>(alloc: Global, matches: &ArgMatches<'a>) -> Result<Line<'a>, WordsFault>
+    ensures ok { IfOk result (λ line. spec.line_of_matches (rows_of (found_of matches.now)) ≡ Some (spec.line_held line)) }
+    ensures usage { IsErrOf result WordsFault.Usage → spec.line_of_matches (rows_of (found_of matches.now)) ≡ None }
+{
+    let Some(command) = matches.get_str("COMMAND") else {
+        return Err(WordsFault::Usage);
+    };
+    let Some(first) = matches.get_str("FIRST") else {
+        return Err(WordsFault::Usage);
+    };
+    let Some(places) = matches.get_one::<u32>("places") else {
+        return Err(WordsFault::Usage);
+    };
+    match rest_of(alloc, matches) {
+        Ok(rest) => Ok(Line {
+            command,
+            first,
+            rest,
+            places,
+        }),
+        Err(_) => Err(WordsFault::Memory),
+    }
+}
+
+// The row of the table that a word has.
+fn row_of(word: &str) -> Option<CommandRow>
+    ensures { result ≡ spec.row_of word.now }
+{
+    match word {
+        "serial" => Some(CommandRow {
+            verb: Verb::Serial,
+            fewest: 1,
+            most: 1,
+        }),
+        "show" => Some(CommandRow {
+            verb: Verb::Show,
+            fewest: 0,
+            most: 0,
+        }),
         _ => None,
     }
 }
 
-// The command that the words behind `show` give.
-fn show_command(words: &[String]) -> Option<Command<'_>>
-    ensures value { option_map task_of result ≡ spec.show_task (map string_bytes words.now) }
-    ensures show { IfSome result (λ command. (command.verb ≡ Verb.Show) × (length command.rest.now ≡ 0)) }
-    ensures places { IfSome result (λ command. (1 ≤ command.places) × (command.places ≤ 65536)) }
+// The command that the table has for what the command line gives.
+fn command_by(line: Line<'_>) -> Option<Command<'_>>
+    ensures { option_map task_of result ≡ spec.task_of_line (spec.line_held line.entry) }
 {
-    match words {
-        [first, last @ ..] => {
-            let places = places_of(last)?;
-            Some(Command {
-                verb: Verb::Show,
-                first: first.as_str(),
-                rest: &words[..0],
-                places,
-            })
-        }
-        _ => None,
+    let Line {
+        command,
+        first,
+        rest,
+        places,
+    } = line;
+    let row = row_of(command)?;
+    if rest.len() < row.fewest || row.most < rest.len() {
+        return None;
+    }
+    Some(Command {
+        verb: row.verb,
+        first,
+        rest,
+        places,
+    })
+}
+
+// The command that the matches of the command line give.
+fn command_given<'a>(alloc: Global, matches: &ArgMatches<'a>) -> Result<Command<'a>, WordsFault>
+    ensures ok { IfOk result (λ command. spec.task_of_matches (rows_of (found_of matches.now)) ≡ Some (task_of command)) }
+    ensures usage { IsErrOf result WordsFault.Usage → spec.task_of_matches (rows_of (found_of matches.now)) ≡ None }
+{
+    let line = match line_of(alloc, matches) {
+        Ok(line) => line,
+        Err(fault) => return Err(fault),
+    };
+    match command_by(line) {
+        Some(command) => Ok(command),
+        None => Err(WordsFault::Usage),
     }
 }
 
-/// Reads the words. They are a command and the path of a module, behind `serial` then that of one operation file, and
-/// where they are wanted `--places` and a number.
-pub fn command_of(words: &Words) -> Option<Command<'_>>
-    ensures value { option_map task_of result ≡ task_of_words words.now }
-    ensures one { IfSome result (λ command. command.verb ≡ Verb.Serial → length command.rest.now ≡ 1) }
-    ensures few { IfSome result (λ command. length command.rest.now ≤ 64) }
-    ensures places { IfSome result (λ command. (1 ≤ command.places) × (command.places ≤ 65536)) }
+// Why words were refused with an error of this kind. A wish for help is refused too.
+fn fault_of(kind: ErrorKind) -> WordsFault
+    ensures usage { result ≡ WordsFault.Usage → kind ≢ ErrorKind.OutOfMemory }
+    ensures memory { result ≡ WordsFault.Memory → kind ≡ ErrorKind.OutOfMemory }
 {
-    match words.as_slice() {
-        [command, rest @ ..] if command.as_str() == "serial" => serial_command(rest),
-        [command, rest @ ..] if command.as_str() == "show" => show_command(rest),
-        _ => None,
+    match kind {
+        ErrorKind::OutOfMemory => WordsFault::Memory,
+        _ => WordsFault::Usage,
+    }
+}
+
+/// Reads the words by the command line and the table of commands, which `docs/FORMATS.md` tells.
+pub fn command_of(alloc: Global, words: &Words) -> Result<Command<'_>, WordsFault>
+    ensures ok { IfOk result (λ command. task_of_words words.entry.now ≡ Some (task_of command)) }
+    ensures usage { IsErrOf result WordsFault.Usage → task_of_words words.entry.now ≡ None }
+    ensures one { IfOk result (λ command. command.verb ≡ Verb.Serial → length command.rest.items ≡ 1) }
+    ensures few { IfOk result (λ command. length command.rest.items ≤ 64) }
+    ensures places { IfOk result (λ command. (1 ≤ command.places) × (command.places ≤ 65536)) }
+{
+    let Ok(line) = command_line(alloc) else {
+        return Err(WordsFault::Memory);
+    };
+    match line.try_get_matches_from(words.as_slice()) {
+        Ok(matches) => command_given(alloc, &matches),
+        Err(error) => Err(fault_of(error.kind())),
     }
 }

@@ -6,15 +6,14 @@ use Rattle.domlock.proofs.loading.read_all_calls.Goals as goal
 
 pub returns-in-Err-clause-cause : goal.returns-in-Err-clause-cause
 returns-in-Err-clause-cause g c =
-    let cause = rw c.as_str.ensures.value at c.in-Err.ensures.cause in
-    StopsAt.no_calls c.paths.all.items c.paths.i _ c.paths.invariant.files (word_at _ _ c.index-paths-i.result c.paths-test.true c.index-paths-i.is)
-    (no_calls_before c.paths.invariant.after cause)
+    StopsAt.no_calls c.paths.all.items c.paths.i _ c.paths.invariant.files (word_at c.args.paths.now c.paths.i c.paths-test.true)
+    (no_calls_before c.paths.invariant.after c.in-Err.ensures.cause)
 
 pub paths-preserved : goal.paths-preserved
 paths-preserved g c =
     let before = c.paths.invariant in
-    let file = rw c.as_str.ensures.value at c.in-Ok.ensures.ok in
-    rw (words_to _ _ c.index-paths-i.result c.paths-test.true c.index-paths-i.is, c.in-Ok-push.ensures.items) record {
+    let file = c.in-Ok.ensures.ok in
+    rw (words_to c.args.paths.now c.paths.i c.paths-test.true, c.in-Ok-push.ensures.items) record {
       after = after_both before.after c.in-Ok.ensures.after;
       within = c.in-Ok.ensures.within;
       files = files_push _ _ _ _ _ _ before.files (file_before before.after.same file);

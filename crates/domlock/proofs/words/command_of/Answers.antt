@@ -1,18 +1,52 @@
-use Rattle.std.proofs.Common.{◌≡◌, ◌∙◌, true, false, sym}
-use Rattle.std.specs.Prelude.{bytes_eq, string_bytes, codes}
-use Rattle.domlock.proofs.WordLemmas.{behind_serial, behind_show}
+use Rattle.std.proofs.Common.{◌∙◌, ◌≡◌, ◌≢◌, ap, sym, subst, map, List, ℕ, length, ◌≤◌, None, codes}
+use Rattle.std.specs.Prelude.{option_and_then, string_bytes}
+use Rattle.std.proofs.lemmas.List.{length-map}
+use Rattle.std.proofs.lemmas.Result.{IfOk-weaker}
+use Rattle.clap.specs.Words.{found_of, rows_of}
+use Rattle.clap.specs.declared.error.kind.ErrorKind.TheVariants as kinds
+use Rattle.clap.proofs.WalkLemmas.{one_text-rows}
+use Rattle.domlock.specs.Words.{number_of, task_of, task_of_matches, task_of_words}
+use Rattle.domlock.specs.declared.words.WordsFault.TheVariants as faults
+use Rattle.domlock.proofs.WordLemmas.{given_few, given_one, given_places, refuses_words, rows_are, rows_in_range, same_words, takes_words, words_give}
 use Rattle.domlock.proofs.words.command_of.Goals as goal
 
-pub returns-in-len1-up-clause-value : goal.returns-in-len1-up-clause-value
-returns-in-len1-up-clause-value c =
-    let serial : bytes_eq (string_bytes c.command-item.result) (codes "serial") ≡ true = rw (← c.as_str.ensures.value) (sym c.eq.ensures ∙ c.if-eq.true) in
-    rw (← c.as_slice.ensures)
-    (c.serial_command.ensures.value ∙ behind_serial _ c.command-item.result c.in-len1-up.len_at_least c.command-item.is serial)
+pub returns-in-Ok-try_get_matches_from-clause-ok : goal.returns-in-Ok-try_get_matches_from-clause-ok
+returns-in-Ok-try_get_matches_from-clause-ok c =
+    let m = c.in-Ok-try_get_matches_from.matches in
+    let words = map string_bytes c.as_slice.result.now in
+    let facts = c.in-Ok-try_get_matches_from.ensures in
+    let gives : task_of_words c.args.words.now ≡ task_of_matches (rows_of (found_of m)) =
+    subst (λ ws. task_of_words ws ≡ task_of_matches (rows_of (found_of m))) c.as_slice.ensures
+    (words_give words (rows_of (found_of m)) (takes_words c.in-Ok.line words c.in-Ok.ensures m facts.kinds) (rows_are c.in-Ok.line words c.in-Ok.ensures m facts.matches)) in
+    same_words c.command_given.result (task_of_words c.args.words.now) (task_of_matches (rows_of (found_of m))) gives c.command_given.ensures.ok
 
-pub returns-in-len1-up-2-clause-value : goal.returns-in-len1-up-2-clause-value
-returns-in-len1-up-2-clause-value c =
-    let serial : bytes_eq (string_bytes c.command-item.result) (codes "serial") ≡ false = rw (← c.as_str.ensures.value) (sym c.eq.ensures ∙ c.if-eq.false) in
-    let show : bytes_eq (string_bytes c.command-item-2.result) (codes "show") ≡ true = rw (← c.as_str-2.ensures.value) (sym c.eq-2.ensures ∙ c.if-eq-2.true) in
-    rw (← c.as_slice.ensures)
-    (c.show_command.ensures.value
-    ∙ behind_show _ c.command-item.result c.command-item-2.result c.in-len1-up.len_at_least c.command-item.is c.command-item-2.is serial show)
+pub returns-in-Ok-try_get_matches_from-clause-usage : goal.returns-in-Ok-try_get_matches_from-clause-usage
+returns-in-Ok-try_get_matches_from-clause-usage c =
+    let m = c.in-Ok-try_get_matches_from.matches in
+    let words = map string_bytes c.as_slice.result.now in
+    let facts = c.in-Ok-try_get_matches_from.ensures in
+    let gives : task_of_words c.args.words.now ≡ task_of_matches (rows_of (found_of m)) =
+    subst (λ ws. task_of_words ws ≡ task_of_matches (rows_of (found_of m))) c.as_slice.ensures
+    (words_give words (rows_of (found_of m)) (takes_words c.in-Ok.line words c.in-Ok.ensures m facts.kinds) (rows_are c.in-Ok.line words c.in-Ok.ensures m facts.matches)) in
+    λ is. gives ∙ c.command_given.ensures.usage is
+
+pub returns-in-Ok-try_get_matches_from-clause-one : goal.returns-in-Ok-try_get_matches_from-clause-one
+returns-in-Ok-try_get_matches_from-clause-one c =
+    given_one c.command_given.result (rows_of (found_of c.in-Ok-try_get_matches_from.matches)) c.command_given.ensures.ok
+
+pub returns-in-Ok-try_get_matches_from-clause-few : goal.returns-in-Ok-try_get_matches_from-clause-few
+returns-in-Ok-try_get_matches_from-clause-few c =
+    given_few c.command_given.result (rows_of (found_of c.in-Ok-try_get_matches_from.matches)) c.command_given.ensures.ok
+
+pub returns-in-Ok-try_get_matches_from-clause-places : goal.returns-in-Ok-try_get_matches_from-clause-places
+returns-in-Ok-try_get_matches_from-clause-places c =
+    let m = c.in-Ok-try_get_matches_from.matches in
+    given_places c.command_given.result (rows_of (found_of m)) c.command_given.ensures.ok
+    (rows_in_range c.in-Ok.line m c.in-Ok.ensures c.in-Ok-try_get_matches_from.ensures.parsed)
+
+pub returns-in-Err-clause-usage : goal.returns-in-Err-clause-usage
+returns-in-Err-clause-usage c =
+    let words = map string_bytes c.as_slice.result.now in
+    λ is. let same : c.fault_of.result ≡ faults.Usage = cc in
+    let other = subst (λ kind. kind ≢ kinds.OutOfMemory) c.kind.ensures (c.fault_of.ensures.usage same) in
+    subst (λ ws. task_of_words ws ≡ None) c.as_slice.ensures (refuses_words c.in-Ok.line words c.in-Ok.ensures c.in-Err.error c.in-Err.ensures.kinds other)
