@@ -1,4 +1,4 @@
-use Rattle.std.proofs.Common.{◌≡◌, ◌≢◌, ℕ, ◌+◌, ◌<◌, ◌≤◌, List, [], ◌⊎◌, inl, inr, Some, None, refl, sym, ◌∙◌, ap, subst, arith}
+use Rattle.std.proofs.Common.{◌≡◌, ◌≢◌, ℕ, ◌+◌, ◌<◌, ◌≤◌, List, [], ◌⊎◌, inl, inr, Some, None, refl, sym, ◌∙◌, subst, arith}
 use Rattle.dl_io.specs.Source.{Source}
 use Rattle.dl_io.specs.Taken.{Taken, Took}
 use Rattle.dl_ir.specs.declared.answers.Entry.{Entry}
