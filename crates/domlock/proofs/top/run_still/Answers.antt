@@ -1,9 +1,8 @@
-use Rattle.std.proofs.Common.{◌≡◌, ◌∙◌, refl, sym, ap, Err}
+use Rattle.std.proofs.Common.{◌∙◌, refl, ap, Err}
 use Rattle.std.proofs.lemmas.List.{length-map}
 use Rattle.domlock.proofs.FileLemmas.{files_length}
 use Rattle.domlock.specs.Promise.{Ends}
-use Rattle.domlock.specs.Words.{status_of, task_of}
-use Rattle.domlock.specs.declared.words.WordsFault.TheVariants as faults
+use Rattle.domlock.specs.Words.{task_of}
 use Rattle.domlock.proofs.EndLemmas.{ends_finished, ends_without_command}
 use Rattle.domlock.proofs.top.run_still.Goals as goal
 

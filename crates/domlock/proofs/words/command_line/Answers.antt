@@ -1,6 +1,6 @@
-use Rattle.std.proofs.Common.{◌≡◌, ◌∙◌, ap, ap₂, rules, refl}
+use Rattle.std.proofs.Common.{◌≡◌, ◌∙◌, ap, ap₂, rules}
 use Rattle.std.specs.Prelude.{pos, Some, codes, true}
-use Rattle.clap.specs.Words.{App, new_app, rule_of, app_of, with_rule}
+use Rattle.clap.specs.Words.{new_app, rule_of, app_of, with_rule}
 use Rattle.clap.specs.Simple.{on_top}
 use Rattle.clap.specs.declared.builder.value_parser.ValueParser.TheVariants as parsers
 use Rattle.domlock.specs.Words as spec

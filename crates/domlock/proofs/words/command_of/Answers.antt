@@ -1,11 +1,8 @@
-use Rattle.std.proofs.Common.{◌∙◌, ◌≡◌, ◌≢◌, ap, sym, subst, map, List, ℕ, length, ◌≤◌, None, codes}
-use Rattle.std.specs.Prelude.{option_and_then, string_bytes}
-use Rattle.std.proofs.lemmas.List.{length-map}
-use Rattle.std.proofs.lemmas.Result.{IfOk-weaker}
+use Rattle.std.proofs.Common.{◌∙◌, ◌≡◌, ◌≢◌, subst, map, None}
+use Rattle.std.specs.Prelude.{string_bytes}
 use Rattle.clap.specs.Words.{found_of, rows_of}
 use Rattle.clap.specs.declared.error.kind.ErrorKind.TheVariants as kinds
-use Rattle.clap.proofs.WalkLemmas.{one_text-rows}
-use Rattle.domlock.specs.Words.{number_of, task_of, task_of_matches, task_of_words}
+use Rattle.domlock.specs.Words.{task_of_matches, task_of_words}
 use Rattle.domlock.specs.declared.words.WordsFault.TheVariants as faults
 use Rattle.domlock.proofs.WordLemmas.{given_few, given_one, given_places, refuses_words, rows_are, rows_in_range, same_words, takes_words, words_give}
 use Rattle.domlock.proofs.words.command_of.Goals as goal

@@ -1,7 +1,7 @@
-use Rattle.std.proofs.Common.{◌∙◌, ◌≡◌, ap, sym, List, ℕ, Some, None, codes}
+use Rattle.std.proofs.Common.{◌∙◌, ◌≡◌, ap, sym, codes}
 use Rattle.std.specs.Prelude.{option_and_then}
 use Rattle.std.specs.Str.Parse.{ParsesUnsigned, ExplainsUnsignedError, HasUnsignedDigitsIfOk}
-use Rattle.clap.specs.Words.{first_of, found_of, one_of, rows_of}
+use Rattle.clap.specs.Words.{found_of, one_of, rows_of}
 use Rattle.clap.proofs.WalkLemmas.{first_value-rows, one_text-rows}
 use Rattle.domlock.specs.Words.{number_of}
 use Rattle.domlock.proofs.WordLemmas.{line_given, no_command, no_first, no_number, number_read, read_number}

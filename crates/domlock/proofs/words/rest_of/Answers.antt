@@ -1,4 +1,4 @@
-use Rattle.std.proofs.Common.{◌∙◌, ◌≡◌, ap, map, List, ℕ, [], Some, None, codes}
+use Rattle.std.proofs.Common.{◌∙◌, ◌≡◌, ap, map, [], Some, None, codes}
 use Rattle.std.specs.Prelude.{unwrap_or}
 use Rattle.std.proofs.lemmas.Result.{IfOk-weaker}
 use Rattle.clap.specs.Words.{all_of, found_of, rows_of}
