@@ -1,3 +1,4 @@
+// The values of expressions and conditions.
 ghost use Rattle.std.specs.Prelude.{◌≡◌, slice_get, neg_ℤ};
 ghost use Rattle.dl_ir.specs.Evaluation.{number_of, target_of, in_range, applied, value_of, relates, is_same, side_of, holds_of};
 
