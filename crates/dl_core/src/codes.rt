@@ -1,3 +1,4 @@
+// What the machine looks up in the code.
 ghost use Rattle.std.specs.Prelude.{◌≡◌, ℕ, ℤ, List, ◌+◌, ◌<◌, ◌≤◌, ◌^◌, None, Some, [], OnSome, slice_get, get_or, drop, length};
 ghost use Rattle.std.specs.Option.{option_copied};
 ghost use Rattle.dl_ir.specs.declared.modules.KindDecl.{KindDecl};

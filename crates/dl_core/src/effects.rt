@@ -1,3 +1,4 @@
+// What each event makes of the caller's frame.
 ghost use Rattle.std.specs.Prelude.{◌≡◌, ℕ, ◌+◌, ◌<◌, ◌^◌, None, Some, [], slice_get, length};
 ghost use Rattle.std.specs.FinMap as finite;
 ghost use Rattle.dl_ir.specs.References.{target_in as target_of_value};

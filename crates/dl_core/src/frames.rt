@@ -1,3 +1,4 @@
+// What the program keeps of a caller: its frame, with its memory and what the pool keeps of it.
 ghost use Rattle.std.specs.Prelude.{◌≡◌, ◌==◌, ◌&&◌, ◌<◌, None, true, false, count_by, take};
 ghost use Rattle.std.specs.List.{list_any};
 ghost use Rattle.dl_ir.specs.References.{refers_to as refers_in, target_in as target_of_value, name_eq};

@@ -1,3 +1,4 @@
+// Local steps up to the next event.
 ghost use Rattle.std.specs.Prelude.{◌≡◌};
 ghost use Rattle.dl_core.specs.LocalSteps.{ready, due as due_in};
 ghost use Rattle.dl_core.specs.Plans.{Plan};

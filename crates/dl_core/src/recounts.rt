@@ -1,3 +1,4 @@
+// How many fields refer to the objects that a caller holds.
 ghost use Rattle.std.specs.Prelude.{◌≡◌, ℕ, ◌+◌, ◌<◌, ◌^◌, None, Some};
 ghost use Rattle.std.specs.FinMap as finite;
 ghost use Rattle.dl_core.specs.declared.stages.Booked.{Booked};

@@ -1,3 +1,4 @@
+// How a call leaves a caller's hand.
 ghost use Rattle.std.specs.Prelude.{◌≡◌, ◌<◌, ◌++◌, ◌∷◌, [], length};
 ghost use Rattle.std.specs.FinMap as finite;
 ghost use Rattle.dl_core.specs.Frames.{at_rest};

@@ -12,8 +12,8 @@ ghost use Rattle.dl_core.specs.Core.{Account, stepped, with_call, no_account};
 ghost use Rattle.dl_core.specs.Frames.{Frame as Pure, idle};
 ghost use Rattle.dl_core.specs.LocalSteps.{due as due_in};
 ghost use Rattle.dl_core.specs.Parts.{core_by, core_of, CanStep, CanAdvance, CanBegin, IsInRun, StandsReady};
-ghost use Rattle.dl_core.specs.Plans.{Plan};
-ghost use Rattle.dl_core.specs.Reached.{Calls, IsReached};
+ghost use Rattle.dl_core.specs.Plans.{Plan, IsCaller, size_of};
+ghost use Rattle.dl_core.specs.Reached.{Calls, IsReached, calls_of, with_begun};
 ghost use Rattle.dl_core.specs.Shown.{shown, memory_of, CanGoOn, HasTurns};
 
 use crate::answers::Progress;
@@ -145,6 +145,7 @@ pub fn begin(code: &Code, caller: u32, call: &Call, frames: &mut Vec<Frame>)
     requires idle { (frame : Kept) → slice_get frames.old.items caller ≡ Some frame → frame.stage ≡ stages.Idle }
     requires fits { IsCallOf code.now.source call.now }
     ensures core { (heap : Rows Object) (counters : Counters) → core_of heap frames.new.items counters ≡ with_call (core_of heap frames.old.items counters) caller call.now }
+    ensures reached { (plan : Plan) (heap : Rows Object) (counters : Counters) (calls : Calls) → plan.code ≡ code.now → IsCaller plan caller → length (calls_of calls caller) < size_of plan caller → IsReached plan (core_of heap frames.old.items counters) calls → IsReached plan (core_of heap frames.new.items counters) (with_begun calls caller call.now) }
     ensures frames { (before : Kept) → slice_get frames.old.items caller ≡ Some before → (after : Kept) × (frames.new.items ≡ set frames.old.items caller after) × CanGoOn code.now after × (memory_of after ≡ memory_of before) }
 {
     begin_by(code, caller, call, frames);

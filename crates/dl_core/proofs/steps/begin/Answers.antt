@@ -1,9 +1,13 @@
-use Rattle.std.proofs.Common.{sym, ap, subst, ◌∙◌}
+use Rattle.std.proofs.Common.{◌≡◌, inl, inr, sym, ap, subst, ◌∙◌, arith}
 use Rattle.std.proofs.lemmas.List.{get_or-map}
-use Rattle.std.proofs.lemmas.Option.{slice_get_within, get_or_from_slice_get}
+use Rattle.std.proofs.lemmas.Option.{slice_get_cases, slice_get_within, get_or_from_slice_get}
 use Rattle.dl_ir.specs.CallForms.{IsCallOf}
 use Rattle.dl_instr.specs.declared.code.Code.{Code}
-use Rattle.dl_core.specs.Frames.{idle}
+use Rattle.dl_core.specs.declared.frames.Frame.{Frame as Kept}
+use Rattle.dl_core.specs.declared.stages.Stage.TheVariants as stages
+use Rattle.dl_core.specs.Core.{Core, frame_of}
+use Rattle.dl_core.specs.Frames.{Frame, idle}
+use Rattle.dl_core.specs.Reached.{IsReached, begins, with_begun}
 use Rattle.dl_core.specs.Parts.{CanBegin, core_of}
 use Rattle.dl_core.specs.Shown.{shown, CanGoOn}
 use Rattle.dl_core.proofs.LawfulAlways.{lawful_always}
@@ -24,3 +28,14 @@ begin_by-requires-clause-may c frame there =
 
 pub begin_by-requires-clause-turns : goal.begin_by-requires-clause-turns
 begin_by-requires-clause-turns c = c.requires.run.2.turns
+
+pub returns-clause-reached : goal.returns-clause-reached
+returns-clause-reached c plan heap counters calls code who room reached =
+    let frames = c.args.frames.now.items in
+    let before = core_of heap frames counters in
+    let idle_now : (frame_of before.world c.args.caller).stage ≡ stages.Idle = elim (slice_get_cases frames c.args.caller).1 [
+      | inl found ↦ ap (λ (f : Frame). f.stage) (get_or-map shown frames c.args.caller found.0 idle found.1) ∙ ap (λ (k : Kept). k.stage) found.3 ∙ c.requires.idle found.0 found.2
+      | inr past ↦ absurd (omega (arith, past.0, c.requires.within))
+    ] in
+    subst (λ (after : Core). IsReached plan after (with_begun calls c.args.caller c.args.call.now)) (sym (c.begin_by.ensures.core heap counters))
+    (begins c.args.caller c.args.call.now reached (record { is_caller = who; idle = idle_now; room = room; fits = subst (λ (code : Code). IsCallOf code.source c.args.call.now) (sym code) c.requires.fits }))
