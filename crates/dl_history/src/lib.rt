@@ -13,6 +13,3 @@ mod reports;
 pub use histories::History;
 pub use merging::{MergeRoom, merge};
 pub use reports::write_report;
-
-#[cfg(test)]
-mod tests;

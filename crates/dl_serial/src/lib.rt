@@ -9,6 +9,3 @@ mod steps;
 
 pub use operations::run_op;
 pub use serving::{Served, run_calls};
-
-#[cfg(test)]
-mod tests;

@@ -2,7 +2,7 @@
 
 ghost use Rattle.std.specs.Prelude.{◌≡◌, ◌∷◌, [], None, pos, IfOk};
 
-use crate::{History, MergeRoom, merge};
+use dl_history::{History, MergeRoom, merge};
 use dl_ir::{Answer, Call, Calls, Closed, Emits, End, Entry, Heap, Module, Move, OpDecl};
 use sqlite_items::Items;
 use std::alloc::{AllocError, Global};
