@@ -14,8 +14,6 @@ mod status;
 #[cfg(test)]
 mod tests;
 mod top;
-#[cfg(test)]
-mod word_tests;
 mod words;
 
 use dl_io::{RealFiles, RealSink};
