@@ -5,8 +5,6 @@
 mod calls;
 mod number;
 mod operation_file;
-#[cfg(test)]
-mod tests;
 mod words;
 
 pub use calls::CallsFault;

@@ -1,6 +1,6 @@
 //! Tests of the faults of names and types.
 
-use crate::{TypeFault, check};
+use dl_types::{TypeFault, check};
 use dl_grammar::read_module;
 use dl_ir::{Module, Stmt, Ty};
 use dl_modules::{COUNTER, LISTS, SKEW, TREAP};

@@ -2,7 +2,7 @@
 
 ghost use Rattle.std.specs.Prelude.{◌*◌, ◌≤◌, length, IfOk};
 
-use crate::{CallsFault, read_calls};
+use dl_syntax::{CallsFault, read_calls};
 use dl_ir::{FieldDecl, KindDecl, LocalDecl, Module, OpDecl, Text, Ty};
 use sqlite_items::Items;
 use std::alloc::{AllocError, Global};

@@ -1,5 +1,5 @@
 //! Texts with their canonical texts.
-use crate::print_module;
+use dl_print::print_module;
 use dl_grammar::read_module;
 use dl_io::MemSink;
 use dl_modules::{COUNTER, LISTS, SKEW, TREAP};
