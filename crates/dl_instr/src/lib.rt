@@ -5,8 +5,6 @@
 mod code;
 mod conditions;
 mod copies;
-#[cfg(test)]
-mod drop_tests;
 mod drops;
 mod expressions;
 mod generator;
@@ -18,10 +16,6 @@ mod names;
 mod plain;
 mod same;
 mod steps;
-#[cfg(test)]
-mod test_modules;
-#[cfg(test)]
-mod tests;
 
 pub use code::Code;
 pub use copies::{copy_cond, copy_expr};

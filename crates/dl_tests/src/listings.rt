@@ -1,7 +1,7 @@
 //! Tests of the listing.
 
-use crate::test_modules::{bump, counter, is_less, is_there, lists, sum};
-use crate::{instrument, print_code};
+use crate::built_modules::{bump, counter, is_less, is_there, lists, sum};
+use dl_instr::{instrument, print_code};
 use dl_io::MemSink;
 use dl_ir::{Block, Expr, Module, Op, Stmt};
 use dl_text::Out;

@@ -1,9 +1,7 @@
 //! Tests of which codes with added drops are codes of a module.
 
-use crate::code::Code;
-use crate::steps::{Content, Origin, Step, Steps};
-use crate::test_modules::{bump, is_less, is_there, lists, sum};
-use crate::{instrument, is_code_of};
+use crate::built_modules::{bump, is_less, is_there, lists, sum};
+use dl_instr::{Content, Origin, Step, Steps, instrument, is_code_of};
 use dl_ir::{Block, Cond, Expr, Op, RefSide, Stmt};
 use sqlite_items::Items;
 use std::alloc::{AllocError, Global};
@@ -12,10 +10,8 @@ use std::test::Fail;
 // Whether steps are a code of a module of lists with one operation, whose body is given twice.
 fn is_code(alloc: Global, body: Block, again: Block, steps: Steps) -> Result<bool, Fail> {
     let source = lists(alloc, b"f", body)?;
-    let code = Code {
-        source: lists(alloc, b"f", again)?,
-        ops: Items::from_vec(vec![in alloc; steps]?),
-    };
+    let code = instrument(alloc, &lists(alloc, b"f", again)?)?;
+    let code = code.with_ops(Items::from_vec(vec![in alloc; steps]?));
     Ok(is_code_of(&source, &code))
 }
 
