@@ -76,5 +76,10 @@ pub mod StepsKeep
 pub mod FreshSound
 pub mod BeginKeeps
 pub mod LawfulAlways
+pub mod Standing
+pub mod Outcomes
+pub mod InRun
+pub mod Owners
+pub mod Added
 pub mod Elements
 pub mod Small

@@ -1,5 +1,5 @@
 -- How the machine in Rust keeps its state and its memory.
-use Rattle.std.specs.Prelude.{◌≡◌, ◌≤◌, ℕ, List, [], false, None, Some, length, slice_get, refl}
+use Rattle.std.specs.Prelude.{◌≡◌, ◌+◌, ◌≤◌, ℕ, List, [], false, None, Some, slice_get, refl}
 use Rattle.std.specs.FinMap as finite
 use Rattle.std.specs.Coded.{Coded, code_by, coded×, coded_ℕ, coded_list}
 use Rattle.dl_ir.specs.declared.answers.Entry.{Entry}
@@ -13,9 +13,11 @@ use Rattle.dl_core.specs.declared.objects.Object.{Object}
 use Rattle.dl_core.specs.declared.stages.Stage.TheVariants as stages
 use Rattle.dl_core.specs.Core.{Core}
 use Rattle.dl_core.specs.Machines.{Machine}
-use Rattle.dl_core.specs.Parts.{core_of, HasOwn, IsInRun}
-use Rattle.dl_core.specs.Plans.{size_of}
+use Rattle.dl_core.specs.Parts.{core_of, HasOwn}
+use Rattle.dl_core.specs.Plans.{Plan, IsPlan, size_of}
+use Rattle.dl_core.specs.Reached.{Calls, IsReached}
 use Rattle.dl_core.specs.Rooms.{Roomed}
+use Rattle.dl_core.specs.Shown.{Memory, memory_of, CanGoOn, HasTurns}
 use Rattle.dl_core.specs.Stored.{coded_core}
 
 -- a machine is stored as its parts
@@ -27,15 +29,35 @@ coded_machine coded_code =
 abbrev pub machine_of : Code → ℕ → List ℕ → Rows Object → List Kept → Counters → Machine
 machine_of code places sizes heap frames counters = record { code = code; places = places; sizes = sizes; state = core_of heap frames counters }
 
--- the parts are those of a state of a run over so many places by callers with these sizes, and each caller has memory for all its
--- operations
+-- a caller that may begin so many operations has memory for them, over a heap with this room
+pub record HasRooms (room size : ℕ) (memory : Memory) : Type 0 where
+  pub book : room ≤ memory.book
+  pub loose : room ≤ memory.loose
+  pub args : 32 ≤ memory.args
+  pub roots : 32 ≤ memory.roots
+  pub locals : 32 ≤ memory.locals
+  pub entries : size ≤ memory.entries
+  pub refusals : size ≤ memory.refusals
+
+-- what holds of a caller's frame
+pub record IsHeldRight (code : Code) (room size caller : ℕ) (kept : Kept) : Type 0 where
+  pub can : CanGoOn code kept
+  pub rooms : HasRooms room size (memory_of kept)
+  pub own : HasOwn caller kept
+
+-- the parts are those of a state of a run over so many places by callers with these sizes, and there is memory for all that the run
+-- can hold
 pub record IsOfRun (code : Code) (places : ℕ) (sizes : List ℕ) (heap : Rows Object) (frames : List Kept) (counters : Counters) : Type 0 where
-  pub run : IsInRun code heap frames counters
-  pub places_are : run.plan.places ≡ places
-  pub sizes_are : run.plan.sizes ≡ sizes
-  pub entries : (caller : ℕ) (frame : Kept) → slice_get frames caller ≡ Some frame → size_of run.plan caller ≤ frame.entries.room
-  pub refusals : (caller : ℕ) (frame : Kept) → slice_get frames caller ≡ Some frame → size_of run.plan caller ≤ frame.refusals.room
-  pub own : (caller : ℕ) (frame : Kept) → slice_get frames caller ≡ Some frame → HasOwn caller frame
+  pub plan : Plan
+  pub code_is : plan.code ≡ code
+  pub places_are : plan.places ≡ places
+  pub sizes_are : plan.sizes ≡ sizes
+  pub is : IsPlan plan
+  pub calls : Calls
+  pub reached : IsReached plan (core_of heap frames counters) calls
+  pub turns : HasTurns code
+  pub room : places + 1024 ≤ heap.room
+  pub each : (caller : ℕ) (frame : Kept) → slice_get frames caller ≡ Some frame → IsHeldRight code heap.room (size_of plan caller) caller frame
 
 -- there is memory for what the run leaves: a heap, and a list for each caller
 pub record HasRoomToClose (heap : Rows Object) (callers : ℕ) (left : View) (entries : Roomed (List Entry)) (refusals : Roomed (List Refusal)) : Type 0 where

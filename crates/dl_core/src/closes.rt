@@ -70,16 +70,16 @@ pub fn close_lists(
 {
     let mut entries = entries;
     let mut refusals = refusals;
-    for (at, frame) in frames.into_iter().enumerate() {
+    let mut callers = frames.into_iter();
+    callers.next();
+    for frame in callers {
         let Frame {
             entries: ended,
             refusals: refused,
             ..
         } = frame;
-        if at > 0 {
-            entries.push(ended.into_items());
-            refusals.push(refused.into_items());
-        }
+        entries.push(ended.into_items());
+        refusals.push(refused.into_items());
     }
     (entries, refusals)
 }

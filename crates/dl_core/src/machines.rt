@@ -41,10 +41,13 @@ pub struct Core {
 
 impl Model for Core {
     ghost use Rattle.std.specs.Prelude.{length};
+    ghost use Rattle.dl_instr.specs.contracts.code.Code as whole_code;
     ghost use Rattle.dl_core.specs.Machines.{Machine};
     ghost use Rattle.dl_core.specs.Machinery.{coded_machine, machine_of, IsOfRun, HasRoomToClose};
 
     ghost Value = { Machine };
+
+    ghost coded = { coded_machine whole_code.the_row.coded };
 
     ghost view = { λ c. machine_of c.code c.places c.sizes c.heap c.frames.items c.counters };
 
