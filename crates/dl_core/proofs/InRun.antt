@@ -1,6 +1,6 @@
 -- The parts of the machine in Rust stay those of a run.
 use Rattle.std.proofs.Common.{◌≡◌, ◌≢◌, ◌⊎◌, inl, inr, ℕ, zero, suc, ◌+◌, ◌<◌, ◌≤◌, List, [], ◌∷◌, length, map, set, Some, refl, sym, ap, subst, ◌∙◌, arith}
-use Rattle.std.specs.Prelude.{slice_get}
+use Rattle.std.specs.Prelude.{slice_get, get_or}
 use Rattle.std.proofs.lemmas.List.{length-map, get_or-map}
 use Rattle.std.proofs.lemmas.Option.{slice_get_within, get_or_from_slice_get}
 use Rattle.dl_ir.specs.Rows.{Rows}
@@ -11,7 +11,7 @@ use Rattle.dl_core.specs.declared.objects.Object.{Object}
 use Rattle.dl_core.specs.declared.stages.Stage.{Stage}
 use Rattle.dl_core.specs.declared.stages.Stage.TheVariants as stages
 use Rattle.dl_core.specs.Accounts.{finished_in, shown_account}
-use Rattle.dl_core.specs.Core.{Account, frame_of, account_of, no_account}
+use Rattle.dl_core.specs.Core.{Account, Core, frame_of, account_of, no_account}
 use Rattle.dl_core.specs.Frames.{Frame, idle}
 use Rattle.dl_core.specs.Laws.{IsKept}
 use Rattle.dl_core.specs.Machinery.{HasRooms, IsHeldRight, IsOfRun}
@@ -32,8 +32,17 @@ each_set P (x ∷ xs) zero after each one (suc at) f e = each (suc at) f e
 each_set P (x ∷ xs) (suc caller) after each one zero f e = each zero f e
 each_set P (x ∷ xs) (suc caller) after each one (suc at) f e = each_set (λ n. P (suc n)) xs caller after (λ n g. each (suc n) g) one at f e
 
+-- the number of calls that a caller has begun is the same, whatever plan and calls the state was reached by
+pub calls_same : (plan other : Plan) (core : Core) (calls others : Calls) → IsPlan plan → IsPlan other → IsReached plan core calls → IsReached other core others → (caller : ℕ) → length (calls_of others caller) ≡ length (calls_of calls caller)
+calls_same plan other core calls others is also reached too caller = sym ((lawful_always other core others also too).sound.each caller).history.begun ∙ ((lawful_always plan core calls is reached).sound.each caller).history.begun
+
+-- and where as many may be begun, as many may be begun
+pub size_same : (plan other : Plan) → plan.sizes ≡ other.sizes → (caller : ℕ) → size_of plan caller ≡ size_of other caller
+size_same plan other same zero = refl
+size_same plan other same (suc place) = ap (λ sizes. get_or sizes place 0) same
+
 module _ (code : Code) (places : ℕ) (sizes : List ℕ) (heap : Rows Object) (frames : List Kept) (counters : Counters) (run : IsOfRun code places sizes heap frames counters) where
-  all : IsKept run.plan (core_of heap frames counters) run.calls
+  pub all : IsKept run.plan (core_of heap frames counters) run.calls
   all = lawful_always run.plan (core_of heap frames counters) run.calls run.is run.reached
 
   module _ (caller : ℕ) (frame : Kept) (there : slice_get frames caller ≡ Some frame) where

@@ -79,6 +79,9 @@ pub mod LawfulAlways
 pub mod Standing
 pub mod Outcomes
 pub mod InRun
+pub mod FirstRun
+pub mod Opened
+pub mod LastRun
 pub mod Owners
 pub mod Added
 pub mod Elements

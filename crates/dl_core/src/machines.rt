@@ -1,13 +1,13 @@
 // The machine of all callers as one value.
-ghost use Rattle.std.specs.Prelude.{◌≡◌, ◌↔◌, IsTrue, IfOk, length, map};
-ghost use Rattle.dl_ir.specs.declared.calls.Call.{Call as Called};
+ghost use Rattle.std.specs.Prelude.{◌≡◌, ◌↔◌, ◌<◌, IsTrue, IfOk, Some, length, map, slice_get};
+ghost use Rattle.dl_core.specs.declared.frames.Frame.{Frame as Kept};
 ghost use Rattle.dl_core.specs.declared.stages.Stage.TheVariants as stages;
 ghost use Rattle.dl_core.specs.Core.{frame_of, stepped, with_call, entries_of, refusals_of};
 ghost use Rattle.dl_core.specs.Heaps.{plain};
-ghost use Rattle.dl_core.specs.Machines.{Machine, AreAllIdle, HasCaller, IsRunning, callers_in, opened, with_state};
+ghost use Rattle.dl_core.specs.Machines.{Machine, AreAllIdle, HasCaller, IsRunning, callers_in, opened, plan_at, with_state};
 ghost use Rattle.dl_core.specs.Passes.{first_plan, plan_over};
 ghost use Rattle.dl_core.specs.Plans.{Plan, IsPlan};
-ghost use Rattle.dl_core.specs.Reached.{Calls, MayBegin, with_begun};
+ghost use Rattle.dl_core.specs.Reached.{Calls, MayBegin, no_calls, with_begun};
 
 use crate::answers::Progress;
 use crate::closes::{Leavings, close_heap, close_lists};
@@ -57,14 +57,11 @@ impl Model for Core {
 impl Core {
     /// The machine at the start of a run over the start heap of the code's module. `sizes` says for each caller how many
     /// operations it may begin; `places` is the number of places for hidden objects.
-    pub fn start(
-        alloc: Global,
-        code: Code,
-        places: u32,
-        sizes: &[u32],
-    ) -> Result<Core, AllocError>
+    pub fn start(alloc: Global, code: Code, places: u32, sizes: &[u32]) -> Result<Core, AllocError>
         requires plan { IsPlan (first_plan code places sizes.now) }
-        ensures { IfOk result (λ core. core ≡ opened (first_plan code places sizes.now)) }
+        ensures opened { IfOk result (λ core. core ≡ opened (first_plan code places sizes.now)) }
+        ensures running { IfOk result (λ core. IsRunning (first_plan code places sizes.now) core (no_calls (first_plan code places sizes.now))) }
+        ensures plan { IfOk result (λ core. plan_at core ≡ first_plan code places sizes.now) }
     {
         let heap = Heap::start(alloc, code.source(), 0)?;
         Core::over(alloc, code, &heap, places, sizes)
@@ -79,7 +76,9 @@ impl Core {
         sizes: &[u32],
     ) -> Result<Core, AllocError>
         requires plan { IsPlan (plan_over code heap.now.objects places sizes.now) }
-        ensures { IfOk result (λ core. core ≡ opened (plan_over code heap.now.objects places sizes.now)) }
+        ensures opened { IfOk result (λ core. core ≡ opened (plan_over code heap.now.objects places sizes.now)) }
+        ensures running { IfOk result (λ core. IsRunning (plan_over code heap.now.objects places sizes.now) core (no_calls (plan_over code heap.now.objects places sizes.now))) }
+        ensures plan { IfOk result (λ core. plan_at core ≡ plan_over code heap.now.objects places sizes.now) }
     {
         let room = places as usize + 1024;
         let counters = first_counters(heap, places);
@@ -145,7 +144,7 @@ impl Core {
         requires caller { HasCaller self.now caller }
         ensures { IsTrue result ↔ ((frame_of self.now.state.world caller).stage ≡ stages.Idle) }
     {
-        matches!(self.frames[caller as usize].stage, Stage::Idle)
+        is_idle_at(caller, self.frames.as_slice())
     }
 
     /// What the run leaves: its heap, the entries and the refusals of each caller, and how many places are free.
@@ -176,4 +175,12 @@ impl Core {
             free: counters.free,
         }
     }
+}
+
+// Whether the caller with this frame has no call in hand.
+fn is_idle_at(caller: u32, frames: &[Frame]) -> bool
+    requires { caller < length frames.now }
+    ensures { (frame : Kept) → slice_get frames.now caller ≡ Some frame → IsTrue result ↔ (frame.stage ≡ stages.Idle) }
+{
+    matches!(frames[caller as usize].stage, Stage::Idle)
 }
