@@ -1,10 +1,9 @@
 -- What the machine in Rust leaves: the lists that it keeps are those of the state.
-use Rattle.std.proofs.Common.{◌≡◌, ℕ, zero, suc, ◌+◌, ◌≤◌, List, [], ◌∷◌, length, map, Some, refl, sym, ap, ◌∙◌, arith}
+use Rattle.std.proofs.Common.{◌≡◌, ℕ, suc, ◌+◌, ◌≤◌, List, [], ◌∷◌, length, map, Some, refl, sym, ap, ◌∙◌, arith}
 use Rattle.std.specs.Prelude.{All, slice_get}
 use Rattle.std.specs.List.{zip}
 use Rattle.std.proofs.lemmas.List.Elements.{All-head, All-tail}
 use Rattle.dl_ir.specs.declared.answers.Entry.{Entry}
-use Rattle.dl_ir.specs.declared.answers.Refusal.{Refusal}
 use Rattle.dl_ir.specs.Rows.{Rows}
 use Rattle.std.specs.FinMap as finite
 use Rattle.dl_instr.specs.declared.code.Code.{Code}
@@ -13,7 +12,7 @@ use Rattle.dl_core.specs.declared.frames.Frame.{Frame as Kept}
 use Rattle.dl_core.specs.declared.objects.Object.{Object}
 use Rattle.dl_core.specs.Accounts.{finished_in, versions_in}
 use Rattle.dl_core.specs.Core.{Account, entries_of, entry_of, refusals_of}
-use Rattle.dl_core.specs.Frames.{Frame, behind_of}
+use Rattle.dl_core.specs.Frames.{behind_of}
 use Rattle.dl_core.specs.Machinery.{IsOfRun}
 use Rattle.dl_core.specs.Parts.{core_of}
 use Rattle.dl_core.specs.Sound.{numbers_from}

@@ -1,12 +1,12 @@
 -- Each call that a caller has begun is finished, refused or in hand.
-use Rattle.std.proofs.Common.{◌≡◌, ◌≢◌, ◌⊎◌, inl, inr, ℕ, zero, suc, ◌+◌, ◌<◌, ◌++◌, [], ◌∷◌, List, length, replicate, set, get_or, refl, sym, ap, subst, ◌∙◌, arith, length-append}
+use Rattle.std.proofs.Common.{◌≡◌, ◌≢◌, inl, inr, ℕ, ◌+◌, ◌++◌, [], ◌∷◌, length, set, get_or, refl, sym, ap, subst, ◌∙◌, arith, length-append}
 use Rattle.std.proofs.lemmas.List.{get_or-set_same, get_or-set_other, set-get_or}
 use Rattle.dl_core.specs.declared.dues.Due.{Due}
 use Rattle.dl_core.specs.declared.dues.Due.TheVariants.{Nothing, Reserves, Enters, Finishes}
 use Rattle.dl_core.specs.declared.stages.Stage.TheVariants as stages
 use Rattle.dl_ir.specs.declared.calls.Call.{Call}
 use Rattle.dl_core.specs.Core.{Account, Core, frame_of, account_of, no_account, refusal_of, versions_made, with_call}
-use Rattle.dl_core.specs.Events.{aim, begun, reserved, refused, entered, finished, finish_of}
+use Rattle.dl_core.specs.Events.{begun, reserved, refused, entered, finished, finish_of}
 use Rattle.dl_core.specs.Frames.{Frame, idle}
 use Rattle.dl_core.specs.Laws.{IsKept}
 use Rattle.dl_core.specs.LocalSteps.{due}
@@ -16,7 +16,7 @@ use Rattle.dl_core.proofs.Fresh.{fresh_frame, same_everywhere}
 use Rattle.dl_core.proofs.Kept.{ready_same}
 use Rattle.dl_core.proofs.LawfulAlways.{lawful_always}
 use Rattle.dl_core.proofs.Machine.{StepIs, reserves_now, refuses_now, enters_now, finishes_now, touches_one, step_is}
-use Rattle.dl_core.proofs.Names.{same_number, no_some}
+use Rattle.dl_core.proofs.Names.{same_number}
 use Rattle.dl_core.proofs.Standing.{entered_busy, idle_due}
 use Rattle.dl_core.proofs.TouchesKeep.{busy_caller, touch_own}
 

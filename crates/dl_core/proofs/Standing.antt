@@ -1,5 +1,5 @@
 -- How callers stand: who has no call in hand has no event, and who has entered has a call in hand.
-use Rattle.std.proofs.Common.{◌≡◌, ◌≢◌, inl, inr, ℕ, refl, sym, ap, ◌∙◌, arith}
+use Rattle.std.proofs.Common.{◌≡◌, ◌≢◌, inl, inr, ℕ, ap, arith}
 use Rattle.dl_ir.specs.declared.answers.End.{End}
 use Rattle.dl_core.specs.declared.dues.Due.TheVariants.{Nothing}
 use Rattle.dl_core.specs.declared.stages.Stage.{Stage}

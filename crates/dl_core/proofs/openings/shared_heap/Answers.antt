@@ -1,12 +1,10 @@
-use Rattle.std.proofs.Common.{◌≡◌, length, map, refl, sym, ap, ◌∙◌, arith}
+use Rattle.std.proofs.Common.{◌≡◌, length, map, sym, ap, ◌∙◌, arith}
 use Rattle.std.specs.FinMap as finite
 use Rattle.std.specs.FinMap.{len-empty, len-entries}
-use Rattle.dl_ir.specs.declared.names.Name.{Name}
-use Rattle.dl_ir.specs.declared.objects.Obj.{Obj}
 use Rattle.dl_ir.specs.Heap.{name_cmp}
 use Rattle.dl_ir.specs.Rows.{Rows, added}
 use Rattle.dl_core.specs.declared.objects.Object.{Object}
-use Rattle.dl_core.specs.Heaps.{marked, marked_object}
+use Rattle.dl_core.specs.Heaps.{marked_object}
 use Rattle.dl_core.proofs.Added.{added_changed, len_put}
 use Rattle.dl_core.proofs.Plain.{changed_entry}
 use Rattle.dl_core.proofs.openings.shared_heap.Goals as goal

@@ -1,7 +1,5 @@
-use Rattle.std.proofs.Common.{◌≡◌, ◌∷◌, ◌+◌, ℕ, List, length, map, refl, sym, ap, subst, ◌∙◌, arith}
-use Rattle.dl_ir.specs.Heap.{hidden_count}
+use Rattle.std.proofs.Common.{◌≡◌, ◌∷◌, ◌+◌, ℕ, List, length, map, sym, ap, subst, ◌∙◌, arith}
 use Rattle.dl_ir.specs.Rows.{Rows}
-use Rattle.dl_shape.specs.Replay.{greatest_ticket}
 use Rattle.dl_core.specs.declared.closes.Leavings.{Leavings}
 use Rattle.dl_core.specs.declared.counters.Counters.{Counters}
 use Rattle.dl_core.specs.declared.frames.Frame.{Frame as Kept}
@@ -10,7 +8,6 @@ use Rattle.dl_core.specs.Core.{Core}
 use Rattle.dl_core.specs.Heaps.{marked}
 use Rattle.dl_core.specs.Machines.{Machine, IsRunning, opened, plan_at}
 use Rattle.dl_core.specs.Machinery.{IsOfRun, kept_idle, machine_of}
-use Rattle.dl_core.specs.Parts.{core_of}
 use Rattle.dl_core.specs.Passes.{plan_over}
 use Rattle.dl_core.proofs.FirstRun.{objects_fit, first_core, first_of_run}
 use Rattle.dl_core.specs.Reached.{no_calls}
