@@ -1,8 +1,8 @@
 //! Texts with their canonical texts.
-use dl_print::print_module;
 use dl_grammar::read_module;
 use dl_io::MemSink;
 use dl_modules::{COUNTER, LISTS, SKEW, TREAP};
+use dl_print::print_module;
 use dl_text::Out;
 use std::alloc::Global;
 use std::str;

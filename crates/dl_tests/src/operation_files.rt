@@ -2,8 +2,8 @@
 
 ghost use Rattle.std.specs.Prelude.{◌*◌, ◌≤◌, length, IfOk};
 
-use dl_syntax::{CallsFault, read_calls};
 use dl_ir::{FieldDecl, KindDecl, LocalDecl, Module, OpDecl, Text, Ty};
+use dl_syntax::{CallsFault, read_calls};
 use sqlite_items::Items;
 use std::alloc::{AllocError, Global};
 use std::test::Fail;

@@ -1,9 +1,9 @@
 //! Tests of the faults of names and types.
 
-use dl_types::{TypeFault, check};
 use dl_grammar::read_module;
 use dl_ir::{Module, Stmt, Ty};
 use dl_modules::{COUNTER, LISTS, SKEW, TREAP};
+use dl_types::{TypeFault, check};
 use std::alloc::Global;
 use std::test::Fail;
 
