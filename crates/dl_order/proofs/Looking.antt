@@ -18,7 +18,7 @@ use Rattle.dl_ir.specs.declared.names.Value.TheVariants as values
 use Rattle.dl_ir.specs.declared.objects.Obj.{Obj}
 use Rattle.dl_ir.specs.CallForms.{IsCallOf, AllFit, IsRootNumber}
 use Rattle.dl_ir.specs.Checked.{IsChecked, IsOperation, HasRoot, IsParamType, IsVarType}
-use Rattle.dl_ir.specs.Heap.{name_cmp, root, IsHeapOf, IsRootOf, HasFields, HasType, hidden_count}
+use Rattle.dl_ir.specs.Heap.{IsHidden, name_cmp, root, IsHeapOf, IsRootOf, HasFields, HasType, hidden_count}
 use Rattle.dl_ir.specs.References.{refs, refers_to, is_loose, is_shared}
 use Rattle.dl_ir.specs.Typed as typed
 use Rattle.dl_ir.specs.Typed.{HasFieldOf}
