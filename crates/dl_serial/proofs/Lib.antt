@@ -13,5 +13,4 @@ mod Returns
 mod Rising
 mod RootNumbers
 mod Sizes
-pub mod Starting
 mod Turns

@@ -1,5 +1,5 @@
--- the start heap: no ticket, and no hidden object
-use Rattle.std.proofs.Common.{◌≡◌, ℕ, zero, suc, ◌+◌, cond, List, [], ◌∷◌, ◌++◌, refl, sym, ap, subst, ◌∙◌, max, fold, length, arith}
+-- The start heap has no ticket and no hidden object, and a run may start from it.
+use Rattle.std.proofs.Common.{◌≡◌, ℕ, zero, suc, ◌+◌, cond, List, [], ◌∷◌, ◌++◌, refl, sym, ap, subst, ◌∙◌, max, fold, length, filter, false, Some, inl, inr, arith}
 use Rattle.std.specs.Prelude.{nat_lt}
 use Rattle.std.specs.declared.cmp.Ordering.TheVariants.{Less, Equal, Greater}
 use Rattle.std.specs.FinMap as finite
@@ -9,10 +9,11 @@ use Rattle.dl_ir.specs.declared.modules.KindDecl.{KindDecl}
 use Rattle.dl_ir.specs.declared.modules.Module.{Module}
 use Rattle.dl_ir.specs.declared.names.Name.{Name}
 use Rattle.dl_ir.specs.declared.objects.Obj.{Obj}
-use Rattle.dl_ir.specs.Heap.{name_cmp, roots_from, roots_of, blank_object, start_objects, hidden_count}
+use Rattle.dl_ir.specs.Heap.{name_cmp, roots_from, roots_of, blank_object, start_objects, hidden_count, HasStart, IsHidden}
+use Rattle.dl_ir.proofs.Members.{Held, In, in_entries}
 use Rattle.dl_ir.proofs.NameOrder.{names_total}
-use Rattle.dl_shape.specs.Replay.{greatest_ticket}
-use Rattle.dl_serial.proofs.Counts.{Held, hidden_in, hidden_in-cons}
+use Rattle.dl_shape.proofs.StartHeap.{start_is_heap}
+use Rattle.dl_shape.specs.Startable.{greatest_ticket, IsStartable, StartsAreStartable}
 
 -- every entry is that of a root
 abbrev AreRoots : Held → Type 0
@@ -56,10 +57,18 @@ no_ticket : (es : Held) → AreRoots es → fold (λ greatest (e : Name × Obj).
 no_ticket [] roots = refl
 no_ticket (e ∷ es) roots = ap (λ (n : ℕ). fold (λ greatest (d : Name × Obj). max greatest d.0.ticket) (max 0 n) es) roots.0 ∙ no_ticket es roots.1
 
-none_hidden : (es : Held) → AreRoots es → hidden_in es ≡ 0
+none_hidden : (es : Held) → AreRoots es → length (filter (λ (e : Name × Obj). nat_lt 0 e.0.ticket) es) ≡ 0
 none_hidden [] roots = refl
 none_hidden (e ∷ es) roots =
-    hidden_in-cons e es ∙ ap (λ (n : ℕ). cond (nat_lt 0 n) 1 0 + hidden_in es) roots.0 ∙ ap (λ (n : ℕ). 0 + n) (none_hidden es roots.1)
+    let others = filter (λ (d : Name × Obj). nat_lt 0 d.0.ticket) es in
+    ap (λ (n : ℕ). length (cond (nat_lt 0 n) (e ∷ others) others)) roots.0 ∙ none_hidden es roots.1
+
+root_in : (e : Name × Obj) (es : Held) → AreRoots es → In e es → e.0.ticket ≡ 0
+root_in e [] roots there = absurd there
+root_in e (x ∷ es) roots there = elim there [
+  | inl same ↦ ap (λ (y : Name × Obj). y.0.ticket) (sym same) ∙ roots.0
+  | inr later ↦ root_in e es roots.1 later
+]
 
 roots-start : (source : Module) → AreRoots (finite.entries (start_objects source))
 roots-start source = roots-from_entries (roots_of 0 source.kinds) (roots-roots_of 0 source.kinds)
@@ -71,3 +80,19 @@ greatest_ticket-start source = no_ticket _ (roots-start source)
 -- a start heap has no hidden object
 pub hidden_count-start : (source : Module) → hidden_count (start_objects source) ≡ 0
 hidden_count-start source = none_hidden _ (roots-start source)
+
+-- nor a name of one
+no_hidden : (source : Module) (name : Name) (object : Obj) → finite.get (start_objects source) name ≡ Some object → IsHidden name → ⊥
+no_hidden source name object there hidden =
+    let zero_ticket = root_in (name, object) _ (roots-start source) (in_entries (start_objects source) name object there) in omega (arith, hidden, zero_ticket)
+
+pub start_is_startable : (source : Module) → HasStart source → IsStartable source (start_objects source)
+start_is_startable source start = record {
+  of_module = start_is_heap source start;
+  settled = λ name object there hidden unsealed. absurd (no_hidden source name object there hidden);
+  low_tickets = omega (arith, greatest_ticket-start source);
+  low_indexes = λ name object there hidden. absurd (no_hidden source name object there hidden);
+}
+
+pub starts_are_startable : StartsAreStartable
+starts_are_startable source checked = start_is_startable source checked.start
