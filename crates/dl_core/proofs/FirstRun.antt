@@ -62,7 +62,7 @@ module _ (code : Code) (objects : Objects) (places : ℕ) (sizes : List ℕ) (is
 
   -- there is memory for all objects
   pub objects_fit : finite.len objects ≤ room
-  objects_fit = omega (arith, objects_few code.source is.checked.start objects is.start.of_module, is.start.room)
+  objects_fit = omega (arith, objects_few code.source is.checked.start objects is.start.startable.of_module, is.start.room)
 
   few_fields : HasFewFields code
   few_fields = few_at code.source.kinds is.checked.start.few_fields
