@@ -15,6 +15,7 @@ pub mod Ends
 pub mod Progress
 pub mod Falls
 pub mod Ending
+pub mod OneCaller
 pub mod Closes
 pub mod Found
 pub mod Given

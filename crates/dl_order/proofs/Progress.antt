@@ -1,21 +1,12 @@
 -- Where some caller has a call in hand, some caller does not wait.
-use Rattle.std.proofs.Common.{◌≡◌, ◌≢◌, ◌⊎◌, inl, inr, ℕ, zero, suc, ◌+◌, ◌<◌, ◌==◌, true, false, ℤ, List, [], ◌∷◌, Option, Some, None, refl, sym, ap, subst, ◌∙◌, arith}
-use Rattle.std.specs.Prelude.{slice_get, sum_by, nat_lt, if◌then◌else◌}
-use Rattle.std.specs.List.{zip}
+use Rattle.std.proofs.Common.{◌≡◌, ◌≢◌, ◌⊎◌, inl, inr, ℕ, zero, suc, ◌+◌, ◌<◌, List, [], ◌∷◌, Option, Some, None, refl, sym, ap, subst, ◌∙◌, arith}
+use Rattle.std.specs.Prelude.{slice_get, sum_by}
 use Rattle.std.specs.Option.{option_map, option_map_or}
 use Rattle.std.specs.FinMap as finite
 use Rattle.std.proofs.lemmas.List.Sums.{get_or-le-sum_by}
-use Rattle.dl_ir.specs.declared.calls.Call.{Call}
-use Rattle.dl_ir.specs.declared.modules.LocalDecl.{LocalDecl}
-use Rattle.dl_ir.specs.declared.modules.Module.{Module}
-use Rattle.dl_ir.specs.declared.modules.OpDecl.{OpDecl}
-use Rattle.dl_ir.specs.declared.modules.Ty.{Ty}
-use Rattle.dl_ir.specs.declared.modules.Ty.TheVariants as types
 use Rattle.dl_ir.specs.declared.names.Name.{Name}
 use Rattle.dl_ir.specs.declared.objects.Obj.{Obj}
-use Rattle.dl_ir.specs.CallForms.{AllFit, FitsType, IsCallOf}
-use Rattle.dl_ir.specs.Heap.{IsRootOf, root}
-use Rattle.dl_shape.specs.Operation.{root_number}
+use Rattle.dl_ir.specs.Heap.{root}
 use Rattle.dl_ir.specs.declared.answers.End.{End}
 use Rattle.dl_core.specs.declared.answers.Progress.{Progress}
 use Rattle.dl_core.specs.declared.answers.Progress.TheVariants as progress
@@ -26,7 +17,7 @@ use Rattle.dl_core.specs.declared.objects.Object.{Object}
 use Rattle.dl_core.specs.declared.stages.Stage.{Stage}
 use Rattle.dl_core.specs.declared.stages.Stage.TheVariants as stages
 use Rattle.dl_core.specs.Heaps.{plain_object, IsHeld}
-use Rattle.dl_core.specs.Plans.{Plan, IsPlan, source_of, roots_of, roots_among, put_root, put_in}
+use Rattle.dl_core.specs.Plans.{Plan, IsPlan, roots_of}
 use Rattle.dl_core.specs.Frames.{Frame, IsEntered, idle}
 use Rattle.dl_core.specs.declared.dues.Due.TheVariants.{Reserves, TakesRoot, Enters}
 use Rattle.dl_core.specs.LocalSteps.{due}
@@ -37,13 +28,12 @@ use Rattle.dl_core.specs.Reached.{Calls, IsReached}
 use Rattle.dl_core.specs.Reach.{target_of_take}
 use Rattle.dl_core.specs.Sound.{Stands, idles, waits, works, HasCall}
 use Rattle.dl_core.proofs.Diamond.{step→moves}
-use Rattle.dl_core.proofs.Names.{same_some, no_some}
+use Rattle.dl_core.proofs.Names.{no_some}
 use Rattle.dl_core.proofs.Plain.{get_plain}
 use Rattle.dl_core.proofs.CalledRoots.{root_of_call}
 use Rattle.dl_core.proofs.LawfulAlways.{lawful_always}
 use Rattle.dl_order.specs.Measure.{SomeoneMoves}
 use Rattle.dl_order.proofs.Always.{serial_on}
-use Rattle.dl_core.proofs.Elements.{Each}
 use Rattle.dl_order.proofs.Serial.{IsRow, IsCalledFor, for_places, for_a_root, for_a_ticket, called_for, waiting_due, not_called_past}
 use Rattle.dl_order.proofs.Waits.{for_roots}
 use Rattle.dl_order.proofs.Worlds.{stands_of, nowhere_unentered, unentered, moves_step}
