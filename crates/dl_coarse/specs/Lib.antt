@@ -1,4 +1,5 @@
 pub mod Sights
+pub mod Openings
 pub mod Turn
 pub mod Marks
 pub mod Passes
