@@ -1,16 +1,13 @@
 -- The passes that are given out at the start.
-use Rattle.std.proofs.Common.{◌≡◌, ◌≢◌, ℕ, zero, suc, ◌+◌, ◌-◌, ◌<◌, ◌≤◌, ◌⊎◌, inl, inr, ⊎_elim, true, false, List, [], ◌∷◌, ◌++◌, length, sym, refl, ap, ◌∙◌, subst, arith, map, vec_capacity, length-append}
+use Rattle.std.proofs.Common.{◌≡◌, ℕ, zero, suc, ◌+◌, ◌-◌, ◌<◌, ◌≤◌, ◌⊎◌, inl, inr, ⊎_elim, true, false, List, [], ◌∷◌, ◌++◌, length, sym, refl, ap, ◌∙◌, subst, arith, vec_capacity}
 use Rattle.std.specs.Prelude.{Option, Some, None, slice_get}
 use Rattle.atomic_table.specs.Table.{Me}
-use Rattle.dl_shape.specs.Replay.{greatest_ticket}
-use Rattle.dl_core.specs.Core.{no_account}
-use Rattle.dl_core.specs.Frames.{idle}
-use Rattle.dl_core.specs.Passes.{PassView, fresh_pass, first_round, no_look}
+use Rattle.dl_core.specs.Passes.{fresh_pass, first_round, no_look}
 use Rattle.dl_core.specs.Plans.{Plan, IsPlan}
 use Rattle.dl_core.specs.Sound.{numbers_from}
 use Rattle.dl_coarse.specs.Openings.{HasYet, fresh_own}
 use Rattle.dl_coarse.specs.Passes.{IsOf, hand_of, plan_in, view_of}
-use Rattle.dl_coarse.specs.Sights.{Own, Sight, own_of, own_in, behind, note_of, first_alone, without_first, view_with}
+use Rattle.dl_coarse.specs.Sights.{Own, Sight, own_of, own_in, behind, first_alone, without_first, view_with}
 use Rattle.dl_coarse.specs.declared.passes.Coarse.{Coarse}
 use Rattle.dl_coarse.specs.declared.passes.Pass.{Pass}
 

@@ -1,13 +1,10 @@
 -- What is left when the seats of all passes are joined.
-use Rattle.std.proofs.Common.{◌≡◌, ◌≢◌, ℕ, zero, suc, ◌+◌, ◌<◌, Bool, List, [], ◌∷◌, ◌++◌, length, sym, refl, ap, ◌∙◌, subst, arith, map, ℤ}
+use Rattle.std.proofs.Common.{◌≡◌, ◌≢◌, ℕ, zero, suc, ◌+◌, Bool, List, [], ◌∷◌, ◌++◌, length, sym, refl, ap, ◌∙◌, subst, arith, map, ℤ}
 use Rattle.std.proofs.lemmas.List.{length-map}
 use Rattle.std.specs.Prelude.{Option, Some, None, true, false, slice_get}
 use Rattle.std.specs.List.{zip}
 use Rattle.atomic_table.specs.Seated.{TableId}
 use Rattle.atomic_table.specs.Table.{Me}
-use Rattle.dl_ir.specs.declared.answers.Entry.{Entry}
-use Rattle.dl_ir.specs.declared.answers.Refusal.{Refusal}
-use Rattle.dl_ir.specs.declared.calls.Call.{Call}
 use Rattle.dl_ir.specs.declared.closed.Closed.{Closed}
 use Rattle.dl_core.specs.declared.stages.Stage.TheVariants as stages
 use Rattle.dl_core.specs.Closing.{AreIdle, EndsOn, begun_on}
@@ -19,7 +16,7 @@ use Rattle.dl_core.specs.Reached.{IsReached}
 use Rattle.dl_core.specs.Sound.{callers_of, numbers_from}
 use Rattle.dl_coarse.specs.Ends.{HasAll, IsLeft, ShowsAll, calls_in}
 use Rattle.dl_coarse.specs.Passes.{IsOf, CanJoin, CanJoinAll, HasGathered, hand_of, own_at, plan_in, view_of}
-use Rattle.dl_coarse.specs.Sights.{Own, Sight, own_of, view_with}
+use Rattle.dl_coarse.specs.Sights.{Own, Sight, view_with}
 use Rattle.dl_coarse.specs.declared.passes.Coarse.{Coarse}
 use Rattle.dl_coarse.specs.declared.passes.Pass.{Pass}
 

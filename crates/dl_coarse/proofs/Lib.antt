@@ -5,3 +5,5 @@ pub mod Views
 pub mod Rooms
 pub mod Ending
 pub mod Gathering
+pub mod Stepping
+pub mod LoneTurn

@@ -1,19 +1,17 @@
 -- How a run over the table starts: the machine is put into the slot, and each caller's own goes to a pass of its own.
-use Rattle.std.proofs.Common.{◌≡◌, ◌≢◌, ℕ, zero, suc, ◌+◌, ◌<◌, ◌≤◌, ⊎_elim, List, [], ◌∷◌, length, get_or, sym, refl, ap, ◌∙◌, subst, arith, map, get_or-set_same, length-set, add-one}
-use Rattle.std.specs.Prelude.{Option, Some, None, true, false, Contains, replicate}
-use mathlib.Core.Option.{Option as Slot, none, some, some-injective}
+use Rattle.std.proofs.Common.{◌≡◌, ◌≢◌, ℕ, zero, suc, ◌+◌, ◌<◌, ◌≤◌, List, [], ◌∷◌, length, get_or, sym, refl, ap, ◌∙◌, subst, arith, map}
+use Rattle.std.specs.Prelude.{Option, None, true, false, Contains, replicate}
+use mathlib.Core.Option.{some, some-injective}
 use lib.ListN.{get_elem?}
-use Rattle.atomic_table.specs.Table.{State, Me, step, takes, stepped, Allows, Splits, opening, rest}
-use Rattle.atomic_table.specs.Table as acts
-use Rattle.atomic_table.proofs.Lists.{at_set, set_here}
-use Rattle.dl_core.specs.Core.{Core, frame_of, account_of, no_account, fresh}
+use Rattle.atomic_table.specs.Table.{Me, Splits, opening, rest}
+use Rattle.dl_core.specs.Core.{Core, no_account, fresh}
 use Rattle.dl_core.specs.Frames.{idle}
-use Rattle.dl_core.specs.Plans.{Plan, IsPlan, IsCaller}
+use Rattle.dl_core.specs.Plans.{Plan, IsPlan}
 use Rattle.dl_core.specs.Passes.{Loaded, Stored}
-use Rattle.dl_core.specs.Reached.{Calls, calls_of, no_calls, IsReached, starts}
+use Rattle.dl_core.specs.Reached.{calls_of, no_calls, starts}
 use Rattle.dl_core.specs.Sound.{callers_of, numbers_from}
 use Rattle.dl_coarse.specs.Openings.{HasSlot, HasYet, fresh_own, first_sight}
-use Rattle.dl_coarse.specs.Sights.{Own, TurnTaken, Sight, own_in, behind, glanced, note_of, turn_with, with_slot, without_turn, without_first, first_alone}
+use Rattle.dl_coarse.specs.Sights.{Own, Sight, own_in, behind, glanced, note_of, turn_with, with_slot, without_turn, without_first, first_alone}
 use Rattle.dl_coarse.specs.Turn.{HasOwn, IsTurn, MayReturn}
 use Rattle.dl_coarse.proofs.Keeps.{has_turn_here, dealt}
 

@@ -4,3 +4,4 @@ pub mod Turn
 pub mod Marks
 pub mod Passes
 pub mod Ends
+pub mod Going

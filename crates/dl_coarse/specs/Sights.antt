@@ -1,5 +1,5 @@
 -- What a seat of the turn's table knows.
-use Rattle.std.specs.Prelude.{◌≡◌, ℕ, max, length, ◌++◌, Option, Some, None, Bool, true, false, List, [], ◌∷◌, refl}
+use Rattle.std.specs.Prelude.{◌≡◌, ℕ, max, length, ◌++◌, Option, Some, None, Bool, false, List, [], ◌∷◌, refl}
 use Rattle.std.specs.Coded.{Coded, code_by, coded×, coded_ℕ, coded_bool, coded_list, coded_option}
 use Rattle.dl_ir.specs.declared.calls.Call.{Call}
 use Rattle.dl_core.specs.Frames.{Frame, idle}

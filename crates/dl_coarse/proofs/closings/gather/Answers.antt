@@ -1,4 +1,4 @@
-use Rattle.std.proofs.Common.{rules, [], ap, sym, ◌∙◌}
+use Rattle.std.proofs.Common.{rules, ap, ◌∙◌}
 use Rattle.dl_coarse.proofs.Gathering.{before_last, owns_before}
 use Rattle.dl_coarse.proofs.Keeps.{joined_before}
 use Rattle.dl_coarse.proofs.closings.gather.Goals as goal

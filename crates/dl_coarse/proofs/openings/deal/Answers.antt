@@ -1,7 +1,7 @@
-use Rattle.std.proofs.Common.{rules, ◌≡◌, ◌+◌, ◌-◌, ℕ, suc, Some, length, refl, ap, ◌∙◌, sym, subst, arith}
+use Rattle.std.proofs.Common.{rules, ◌≡◌, ◌+◌, ◌-◌, ℕ, Some, length, refl, ◌∙◌, sym, subst, arith}
 use Rattle.std.specs.Prelude.{slice_get}
 use Rattle.dl_core.specs.Sound.{numbers_from}
-use Rattle.dl_coarse.specs.Openings.{HasYet, fresh_own}
+use Rattle.dl_coarse.specs.Openings.{HasYet}
 use Rattle.dl_coarse.specs.Passes.{plan_in}
 use Rattle.dl_coarse.proofs.Dealing.{IsFresh, one_less, dealt_one, is_fresh, fresh_more}
 use Rattle.dl_coarse.proofs.Starting.{deals}
