@@ -77,6 +77,9 @@ pub mod FreshSound
 pub mod BeginKeeps
 pub mod LawfulAlways
 pub mod Standing
+pub mod Acting
+pub mod CalledRoots
+pub mod Causes
 pub mod Outcomes
 pub mod InRun
 pub mod FirstRun

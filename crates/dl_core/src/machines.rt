@@ -2,6 +2,7 @@
 ghost use Rattle.std.specs.Prelude.{◌≡◌, ◌↔◌, ◌<◌, IsTrue, IfOk, Some, length, map, slice_get};
 ghost use Rattle.dl_core.specs.declared.frames.Frame.{Frame as Kept};
 ghost use Rattle.dl_core.specs.declared.stages.Stage.TheVariants as stages;
+ghost use Rattle.dl_core.specs.Causes.{HasCauses};
 ghost use Rattle.dl_core.specs.Core.{frame_of, stepped, with_call, entries_of, refusals_of};
 ghost use Rattle.dl_core.specs.Heaps.{plain};
 ghost use Rattle.dl_core.specs.Machines.{Machine, AreAllIdle, HasCaller, IsRunning, callers_in, opened, plan_at, with_state};
@@ -108,6 +109,7 @@ impl Core {
         ensures stepped { (plan : Plan) → plan.code ≡ self.old.code → stepped plan self.old.state caller ≡ (self.new.state, result) }
         ensures same { self.new ≡ with_state self.old self.new.state }
         ensures running { (plan : Plan) (calls : Calls) → IsRunning plan self.old calls → IsRunning plan self.new calls }
+        ensures causes { (plan : Plan) (calls : Calls) → IsRunning plan self.old calls → HasCauses plan self.old.state caller result self.new.state }
     {
         advance(
             &self.code,

@@ -1,5 +1,4 @@
 pub mod Runs
-pub mod Acting
 pub mod Keeping
 pub mod Worlds
 pub mod Histories

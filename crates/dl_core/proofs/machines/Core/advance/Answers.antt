@@ -1,7 +1,13 @@
-use Rattle.std.proofs.Common.{inl, inr, length, ap, arith}
+use Rattle.std.proofs.Common.{inl, inr, length, sym, ap, subst, ◌∙◌, arith}
 use Rattle.std.proofs.lemmas.Option.{slice_get_cases}
+use Rattle.dl_core.specs.Causes.{HasCauses}
+use Rattle.dl_core.specs.Core.{Core}
 use Rattle.dl_core.specs.Machines.{Machine}
+use Rattle.dl_core.specs.Parts.{core_of}
+use Rattle.dl_core.specs.Reached.{IsReached}
+use Rattle.dl_core.proofs.Causes.{has_causes}
 use Rattle.dl_core.proofs.InRun.{in_run, count, still_of_run}
+use Rattle.dl_core.proofs.LawfulAlways.{lawful_always}
 use Rattle.dl_core.proofs.machines.Core.advance.Goals as goal
 
 pub advance-requires-clause-run : goal.advance-requires-clause-run
@@ -28,3 +34,12 @@ invariant_of-self c =
       ],
       record { empty = left.empty; room = omega (arith, left.room, c.advance.ensures.room); no_entries = left.no_entries; entries_room = left.entries_room; no_refusals = left.no_refusals; refusals_room = left.refusals_room },
     )
+
+pub returns-clause-causes : goal.returns-clause-causes
+returns-clause-causes c plan calls running =
+    let i = c.self.inside in
+    let old = ap (λ (m : Machine). m.state) c.self.view_is in
+    let reached = subst (λ (s : Core). IsReached plan s calls) (sym old) running.reached in
+    subst (λ (s : Core). HasCauses plan s c.args.caller c.advance.result (core_of c.advance.new.heap c.advance.new.frames.items c.advance.new.counters)) old
+    (has_causes plan (core_of i.heap i.frames.items i.counters) calls c.args.caller running.is (lawful_always plan (core_of i.heap i.frames.items i.counters) calls running.is reached)
+    (core_of c.advance.new.heap c.advance.new.frames.items c.advance.new.counters) c.advance.result (c.advance.ensures.stepped plan (running.code ∙ ap (λ (m : Machine). m.code) (sym c.self.view_is))))
