@@ -1,5 +1,5 @@
 -- Draws behind other draws.
-use Rattle.std.proofs.Common.{◌≡◌, ℕ, zero, suc, ◌+◌, ◌*◌, refl, sym, ap, ◌∙◌, arith}
+use Rattle.std.proofs.Common.{◌≡◌, ℕ, zero, suc, ◌+◌, ◌*◌, ap, ◌∙◌, arith}
 use Rattle.dl_work.specs.Draws.{next_state, first_drawn, state_after, drawn}
 use Rattle.dl_work.specs.Works.{call_from, call_of}
 

@@ -1,6 +1,6 @@
 -- Generated work fits each module that takes it, and its schedule has the callers that there are.
-use Rattle.std.proofs.Common.{◌≡◌, ℕ, zero, suc, ◌+◌, ◌*◌, ◌%◌, ◌<◌, ◌≤◌, true, false, cond, List, [], ◌∷◌, map, filter, length, ℤ, pos, refl, sym, ap, subst, ◌∙◌, arith}
-use Rattle.std.specs.Prelude.{◌==◌, nat_lt, slice_index_or, All, sum_by, count_by}
+use Rattle.std.proofs.Common.{◌≡◌, ℕ, zero, suc, ◌+◌, ◌*◌, ◌%◌, ◌≤◌, true, false, cond, List, [], ◌∷◌, map, filter, ℤ, pos, refl, ap, subst, ◌∙◌, arith}
+use Rattle.std.specs.Prelude.{◌==◌, nat_lt, slice_index_or, All}
 use Rattle.std.specs.List.{range_with_len}
 use Rattle.std.proofs.lemmas.List.{length-map}
 use Rattle.std.proofs.lemmas.List.Elements.{All-map}
@@ -10,7 +10,7 @@ use Rattle.dl_ir.specs.declared.calls.Call.{Call}
 use Rattle.dl_ir.specs.declared.modules.LocalDecl.{LocalDecl}
 use Rattle.dl_ir.specs.declared.modules.Module.{Module}
 use Rattle.dl_ir.specs.declared.modules.Ty.{Ty}
-use Rattle.dl_ir.specs.declared.modules.Ty.TheVariants.{Int, Of}
+use Rattle.dl_ir.specs.declared.modules.Ty.TheVariants.{Of}
 use Rattle.dl_ir.specs.CallForms.{FitsType, AllFit, IsCallOf, AreCallsOf}
 use Rattle.dl_schedule.specs.declared.give.Give.{Give}
 use Rattle.dl_schedule.specs.Rules.{AreGivesOf, IsGiveOf, steps_in}

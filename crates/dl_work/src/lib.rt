@@ -3,6 +3,8 @@
 #![tactic(auto)]
 
 mod draws;
+mod summaries;
 mod works;
 
+pub use summaries::{Figures, write_summary};
 pub use works::{Work, make_work};

@@ -1,4 +1,4 @@
-use Rattle.std.proofs.Common.{◌≡◌, ◌+◌, ℕ, List, ◌++◌, [], ◌∷◌, sym, ap, refl, ◌∙◌}
+use Rattle.std.proofs.Common.{◌+◌, ℕ, List, ◌++◌, [], ◌∷◌, sym, ap, refl, ◌∙◌}
 use Rattle.std.proofs.lemmas.List.FromFn.{map-range_with_len_more}
 use Rattle.dl_ir.specs.declared.calls.Call.{Call}
 use Rattle.dl_work.proofs.works.empty_files.Goals as goal

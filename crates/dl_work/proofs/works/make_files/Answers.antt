@@ -1,4 +1,4 @@
-use Rattle.std.proofs.Common.{◌≡◌, ◌+◌, ◌*◌, ◌%◌, ◌<◌, ◌++◌, [], ◌∷◌, length, sym, ap, ◌∙◌, arith, slice_set, slice_index_or}
+use Rattle.std.proofs.Common.{◌≡◌, ◌+◌, ◌%◌, ◌<◌, ◌++◌, [], ◌∷◌, length, ap, ◌∙◌, arith, slice_set, slice_index_or}
 use Rattle.std.proofs.lemmas.List.FromFn.{length-map-range_with_len}
 use Rattle.dl_work.specs.Draws.{state_after}
 use Rattle.dl_work.specs.Works.{call_of, file_of, files_of}

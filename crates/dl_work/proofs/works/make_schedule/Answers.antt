@@ -1,8 +1,8 @@
-use Rattle.std.proofs.Common.{map, ◌≡◌, ◌+◌, ◌%◌, ◌++◌, [], ◌∷◌, ℕ, sym, ap, ◌∙◌, arith, add-one}
+use Rattle.std.proofs.Common.{map, ◌++◌, [], ◌∷◌, ℕ, sym, ap, ◌∙◌, arith}
 use Rattle.std.specs.List.{range_with_len}
 use Rattle.std.proofs.lemmas.List.FromFn.{map-range_with_len_more}
 use Rattle.dl_schedule.specs.declared.give.Give.{Give}
-use Rattle.dl_work.specs.Draws.{next_state, first_drawn, state_after, drawn}
+use Rattle.dl_work.specs.Draws.{next_state, first_drawn, drawn}
 use Rattle.dl_work.specs.Works.{give_of}
 use Rattle.dl_work.proofs.Drawing.{state_behind}
 use Rattle.dl_work.proofs.works.make_schedule.Goals as goal

@@ -3,7 +3,6 @@ use Rattle.std.specs.Prelude.{All}
 use Rattle.std.specs.List.{range_with_len}
 use Rattle.dl_ir.specs.CallForms.{AreCallsOf}
 use Rattle.dl_schedule.specs.Rules.{AreGivesOf}
-use Rattle.dl_work.specs.declared.works.Work.{Work}
 use Rattle.dl_work.specs.Draws.{state_after, drawn}
 use Rattle.dl_work.specs.Works.{give_of, files_of, schedule_of}
 use Rattle.dl_work.proofs.Dealing.{same_from}
