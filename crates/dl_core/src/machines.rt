@@ -8,6 +8,7 @@ ghost use Rattle.dl_core.specs.Heaps.{plain};
 ghost use Rattle.dl_core.specs.Machines.{Machine, AreAllIdle, HasCaller, IsRunning, callers_in, opened, plan_at, with_state};
 ghost use Rattle.dl_core.specs.Passes.{first_plan, plan_over};
 ghost use Rattle.dl_core.specs.Plans.{Plan, IsPlan};
+ghost use Rattle.dl_core.specs.Turns.{call_of};
 ghost use Rattle.dl_core.specs.Reached.{Calls, MayBegin, no_calls, with_begun};
 
 use crate::answers::Progress;
@@ -100,7 +101,16 @@ impl Core {
         ensures begun { self.new ≡ with_state self.old (with_call self.old.state caller call.now) }
         ensures running { (plan : Plan) (calls : Calls) → IsRunning plan self.old calls → MayBegin plan self.old.state calls caller call.now → IsRunning plan self.new (with_begun calls caller call.now) }
     {
-        begin(&self.code, caller, call, &mut self.frames);
+        self.begin_with(caller, call.op, call.args.as_slice());
+    }
+
+    /// The same, where the call is given by the number of its operation and its arguments.
+    pub fn begin_with(&mut self, caller: u32, op: u32, args: &[i64])
+        requires may { (plan : Plan) × (calls : Calls) × IsRunning plan self.old calls × MayBegin plan self.old.state calls caller (call_of op args.now) }
+        ensures begun { self.new ≡ with_state self.old (with_call self.old.state caller (call_of op args.now)) }
+        ensures running { (plan : Plan) (calls : Calls) → IsRunning plan self.old calls → MayBegin plan self.old.state calls caller (call_of op args.now) → IsRunning plan self.new (with_begun calls caller (call_of op args.now)) }
+    {
+        begin(&self.code, caller, op, args, &mut self.frames);
     }
 
     /// Gives a caller a step: its next event takes place, unless it waits for another caller or has no call in hand.

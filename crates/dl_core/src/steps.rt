@@ -15,6 +15,7 @@ ghost use Rattle.dl_core.specs.Parts.{core_by, core_of, CanStep, CanAdvance, Can
 ghost use Rattle.dl_core.specs.Plans.{Plan, IsCaller, size_of};
 ghost use Rattle.dl_core.specs.Reached.{Calls, IsReached, calls_of, with_begun};
 ghost use Rattle.dl_core.specs.Shown.{shown, memory_of, CanGoOn, HasTurns};
+ghost use Rattle.dl_core.specs.Turns.{call_of};
 
 use crate::answers::Progress;
 use crate::calls::begun;
@@ -25,7 +26,7 @@ use crate::objects::Object;
 use crate::ready::make_ready;
 use crate::touches::touch;
 use dl_instr::Code;
-use dl_ir::{Call, Table};
+use dl_ir::Table;
 
 /// The event that comes next at a frame at which no local step does.
 pub fn due_of(code: &Code, frame: &mut Frame) -> Due
@@ -129,26 +130,26 @@ pub fn advance(
 }
 
 // Puts a call into a caller's hand, for which all is there that it needs.
-fn begin_by(code: &Code, caller: u32, call: &Call, frames: &mut Vec<Frame>)
+fn begin_by(code: &Code, caller: u32, op: u32, args: &[i64], frames: &mut Vec<Frame>)
     requires within { caller < length frames.old.items }
     requires turns { HasTurns code.now }
-    requires may { (frame : Kept) → slice_get frames.old.items caller ≡ Some frame → CanBegin code.now frame call.now }
-    ensures core { (heap : Rows Object) (counters : Counters) → core_of heap frames.new.items counters ≡ with_call (core_of heap frames.old.items counters) caller call.now }
+    requires may { (frame : Kept) → slice_get frames.old.items caller ≡ Some frame → CanBegin code.now frame (call_of op args.now) }
+    ensures core { (heap : Rows Object) (counters : Counters) → core_of heap frames.new.items counters ≡ with_call (core_of heap frames.old.items counters) caller (call_of op args.now) }
     ensures frames { (before : Kept) → slice_get frames.old.items caller ≡ Some before → (after : Kept) × (frames.new.items ≡ set frames.old.items caller after) × CanGoOn code.now after × (memory_of after ≡ memory_of before) × (HasOwn caller before → HasOwn caller after) }
 {
     let frame = &mut frames[caller as usize];
-    begun(code, call, frame);
+    begun(code, op, args, frame);
 }
 
 /// Puts a call into a caller's hand, in a state of a run.
-pub fn begin(code: &Code, caller: u32, call: &Call, frames: &mut Vec<Frame>)
+pub fn begin(code: &Code, caller: u32, op: u32, args: &[i64], frames: &mut Vec<Frame>)
     requires run { (heap : Rows Object) × (counters : Counters) × IsInRun code.now heap frames.old.items counters }
     requires within { caller < length frames.old.items }
     requires idle { (frame : Kept) → slice_get frames.old.items caller ≡ Some frame → frame.stage ≡ stages.Idle }
-    requires fits { IsCallOf code.now.source call.now }
-    ensures core { (heap : Rows Object) (counters : Counters) → core_of heap frames.new.items counters ≡ with_call (core_of heap frames.old.items counters) caller call.now }
-    ensures reached { (plan : Plan) (heap : Rows Object) (counters : Counters) (calls : Calls) → plan.code ≡ code.now → IsCaller plan caller → length (calls_of calls caller) < size_of plan caller → IsReached plan (core_of heap frames.old.items counters) calls → IsReached plan (core_of heap frames.new.items counters) (with_begun calls caller call.now) }
+    requires fits { IsCallOf code.now.source (call_of op args.now) }
+    ensures core { (heap : Rows Object) (counters : Counters) → core_of heap frames.new.items counters ≡ with_call (core_of heap frames.old.items counters) caller (call_of op args.now) }
+    ensures reached { (plan : Plan) (heap : Rows Object) (counters : Counters) (calls : Calls) → plan.code ≡ code.now → IsCaller plan caller → length (calls_of calls caller) < size_of plan caller → IsReached plan (core_of heap frames.old.items counters) calls → IsReached plan (core_of heap frames.new.items counters) (with_begun calls caller (call_of op args.now)) }
     ensures frames { (before : Kept) → slice_get frames.old.items caller ≡ Some before → (after : Kept) × (frames.new.items ≡ set frames.old.items caller after) × CanGoOn code.now after × (memory_of after ≡ memory_of before) × (HasOwn caller before → HasOwn caller after) }
 {
-    begin_by(code, caller, call, frames);
+    begin_by(code, caller, op, args, frames);
 }

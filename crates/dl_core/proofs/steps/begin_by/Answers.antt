@@ -1,3 +1,4 @@
+use Rattle.dl_core.specs.Turns.{call_of}
 use Rattle.std.proofs.Common.{◌≡◌, length, Some, map, set, refl, sym, ap, subst, ◌∙◌}
 use Rattle.std.specs.Prelude.{All, slice_get, get_or}
 use Rattle.std.proofs.lemmas.List.{map-set, get_or-map, set-get_or}
@@ -31,8 +32,8 @@ begun-requires-clause-index c =
     let frame = c.index_mut-frame.result.now in
     (c.requires.may frame (slice_get_read frames (length frames) c.args.caller frame refl c.requires.within c.index_mut-frame.ensures.value)).index
 
-pub begun-requires-clause-args : goal.begun-requires-clause-args
-begun-requires-clause-args c =
+pub begun-requires-clause-args_fit : goal.begun-requires-clause-args_fit
+begun-requires-clause-args_fit c =
     let frames = c.args.frames.now.items in
     let frame = c.index_mut-frame.result.now in
     (c.requires.may frame (slice_get_read frames (length frames) c.args.caller frame refl c.requires.within c.index_mut-frame.ensures.value)).args
@@ -52,8 +53,8 @@ returns-clause-core c heap counters =
     let old_account : get_or (map shown_account frames) c.args.caller no_account ≡ shown_account frame = get_or-map shown_account frames c.args.caller frame no_account c.requires.within ∙ ap shown_account value in
     let accounts : map shown_account (set frames c.args.caller c.begun.new.frame) ≡ map shown_account frames =
     map-set shown_account frames c.args.caller c.begun.new.frame ∙ ap (set (map shown_account frames) c.args.caller) (c.begun.ensures.account ∙ sym old_account) ∙ set-get_or (map shown_account frames) c.args.caller no_account in
-    let shown_frames : map shown (set frames c.args.caller c.begun.new.frame) ≡ set (map shown frames) c.args.caller (begun c.args.call.now (get_or (map shown frames) c.args.caller idle)) =
-    map-set shown frames c.args.caller c.begun.new.frame ∙ ap (set (map shown frames) c.args.caller) (c.begun.ensures.shown ∙ ap (begun c.args.call.now) (sym old_frame)) in
+    let shown_frames : map shown (set frames c.args.caller c.begun.new.frame) ≡ set (map shown frames) c.args.caller (begun (call_of c.args.op c.args.args.now) (get_or (map shown frames) c.args.caller idle)) =
+    map-set shown frames c.args.caller c.begun.new.frame ∙ ap (set (map shown frames) c.args.caller) (c.begun.ensures.shown ∙ ap (begun (call_of c.args.op c.args.args.now)) (sym old_frame)) in
     λ i. core_by heap.rows (shown_frames i) (accounts i) counters
 
 pub returns-clause-frames : goal.returns-clause-frames
