@@ -24,9 +24,11 @@ mod test_modules;
 mod tests;
 
 pub use code::Code;
+pub use copies::{copy_cond, copy_expr};
 pub use drops::codes_of_modules;
 pub use generator::instrument;
 pub use laws::jumps_land;
 pub use listing::print_code;
+pub use liveness::{is_reference, is_use, reads, sets};
 pub use matching::is_code_of;
 pub use steps::{Content, Origin, Step, Steps};
