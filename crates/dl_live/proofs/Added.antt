@@ -1,5 +1,5 @@
 -- Steps added before steps.
-use Rattle.std.proofs.Common.{◌≡◌, ℕ, zero, suc, ◌+◌, ◌<◌, ◌≤◌, Some, List, [], ◌∷◌, ◌++◌, length, map, take, slice_get, refl, sym, ap, ◌∙◌, arith, add-one, append_assoc}
+use Rattle.std.proofs.Common.{◌≡◌, ℕ, zero, suc, ◌+◌, Some, List, [], ◌∷◌, ◌++◌, map, take, slice_get, sym, ap, ◌∙◌, arith, add-one, append_assoc}
 use Rattle.dl_instr.specs.declared.steps.Step.{Step}
 use Rattle.dl_live.specs.Dropped.{with_added}
 

@@ -1,9 +1,9 @@
 -- Which places are marked where nothing more becomes marked.
-use Rattle.std.proofs.Common.{◌≡◌, ℕ, ◌<◌, true, false, Bool, Some, List, length, slice_get, inl, inr, ◌⊎◌, ◌↔◌}
+use Rattle.std.proofs.Common.{◌≡◌, ℕ, ◌<◌, true, Bool, Some, List, length, slice_get, inl, inr}
 use Rattle.std.proofs.lemmas.Option.{slice_get_within}
 use Rattle.dl_instr.specs.declared.steps.Step.{Step}
 use Rattle.dl_instr.specs.Drops.{IsReadFrom}
-use Rattle.dl_live.specs.Marks.{IsLiveBy, AllLive, IsSettled, AreLive, is_marked}
+use Rattle.dl_live.specs.Marks.{IsLiveBy, AllLive, IsSettled, is_marked}
 
 -- what is live by marks that tell what is live is live
 pub live_by : (steps : List Step) (local at : ℕ) (marks : List Bool) (step : Step) → AllLive steps local marks → slice_get steps at ≡ Some step

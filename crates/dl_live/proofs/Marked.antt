@@ -1,5 +1,5 @@
 -- Marks that are set and added.
-use Rattle.std.proofs.Common.{◌≡◌, ℕ, zero, suc, ◌+◌, ◌<◌, ◌≤◌, Bool, true, false, List, [], ◌∷◌, ◌++◌, length, refl, ap, slice_set, arith, ◌⊎◌, inl, inr}
+use Rattle.std.proofs.Common.{◌≡◌, ℕ, zero, suc, ◌<◌, Bool, true, false, List, [], ◌∷◌, length, refl, ap, slice_set, arith, ◌⊎◌, inl, inr}
 use Rattle.dl_live.specs.Marks.{is_marked, unmarked}
 
 pub fewer : (marks : List Bool) (at : ℕ) → at < length marks → is_marked marks at ≡ false → unmarked (slice_set marks at true) < unmarked marks

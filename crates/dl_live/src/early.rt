@@ -171,10 +171,10 @@ fn dropped_ops(alloc: Global, source: &Module, code: &Code) -> Result<Items<Step
     codes_of_modules();
     let mut made = Items::new(alloc);
     for (i, op) in source.ops.as_slice().iter().enumerate() {
-        match code.steps(i) {
-            None => return Ok(made),
-            Some(steps) => made.push(dropped(alloc, op, steps.as_slice())?)?,
-        }
+        let Some(steps) = code.steps(i) else {
+            unreachable!()
+        };
+        made.push(dropped(alloc, op, steps.as_slice())?)?;
     }
     Ok(made)
 }

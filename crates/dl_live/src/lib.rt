@@ -4,7 +4,9 @@
 mod brought;
 mod drops;
 mod early;
+mod laws;
 mod live;
 mod marks;
 
 pub use early::early_drops;
+pub use laws::drops_are_code;
