@@ -11,5 +11,5 @@ mod pool;
 mod reports;
 
 pub use histories::History;
-pub use merging::{MergeRoom, merge};
+pub use merging::{MergeRoom, gather, merge};
 pub use reports::write_report;
