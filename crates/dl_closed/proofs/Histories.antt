@@ -78,4 +78,4 @@ all_unsealed {source = source} {all = all} {ticket = ticket} {heap = heap} are n
 
 pub never_seals : (source : Module) (all : List (List Call)) (heap : Objects) (history : List Entry) → All (AreCallsOf source) all
     → IsForestClosed source heap → IsLegal source all heap history → All (λ (entry : Entry). IsUnsealed entry.answer) history
-never_seals source all heap history are closed legal = all_unsealed are closed.unsealed closed.each_run legal
+never_seals source all heap history are closed legal = all_unsealed are closed.unsealed closed.each_run legal.goes

@@ -8,6 +8,7 @@ use native.Mathlib.Decide.{ℕ_discrete}
 use lib.ListN.{get_elem?}
 use Rattle.atomic_table.specs.Table.{State, Final, Seen}
 use Rattle.dl_ir.specs.declared.calls.Call.{Call}
+use Rattle.dl_core.specs.declared.stages.Stage.TheVariants as stages
 use Rattle.dl_core.specs.Core.{Core, frame_of, account_of}
 use Rattle.dl_core.specs.Plans.{Plan}
 use Rattle.dl_core.specs.Reached.{Calls, calls_of, IsReached}
@@ -31,13 +32,13 @@ same_lists (c ∷ calls) [] many each = absurd (omega arith)
 same_lists (c ∷ calls) (own ∷ owns) many each =
     ap (λ (first : List Call). first ∷ calls) (each 0 own refl) ∙ ap (λ (rest : Calls). own.calls ∷ rest) (same_lists calls owns (omega arith) (λ at other there. each (suc at) other there))
 
-module _ {M : Type 0} (plan_of : M → Plan) (core_of : M → Core) (plan : Plan) where
+module _ {M : Type 0} (runs : Plan → M → Type 0) (core_of : M → Core) (plan : Plan) where
   -- the slot has the machine, and it shows what the seat has
-  pub ends_with : (id : ℕ) (v : Sight) (words : List ℕ) (slots : List (Option M)) → v.turn ≡ None → HasAll plan v → Final (Seen (IsTurn plan_of core_of plan) id v) words slots
-      → (machine : M) × (get_elem? slots 0 ≡ some (Some machine)) × (plan_of machine ≡ plan) × ShowsAll plan v (core_of machine)
+  pub ends_with : (id : ℕ) (v : Sight) (words : List ℕ) (slots : List (Option M)) → v.turn ≡ None → HasAll plan v → Final (Seen (IsTurn runs core_of plan) id v) words slots
+      → (machine : M) × (get_elem? slots 0 ≡ some (Some machine)) × runs plan machine × ShowsAll plan v (core_of machine)
   ends_with id v words slots out all final =
       let s : State (Option M) Sight = final.0 in
-      let h : IsTurn plan_of core_of plan s = final.1.0 in
+      let h : IsTurn runs core_of plan s = final.1.0 in
       let at_id : get_elem? s.views id ≡ some v = final.1.1 in
       let none_out : get_or s.words 0 0 ≢ 0 → ⊥ = (λ taken.
       let other = h.out taken in
@@ -61,10 +62,31 @@ module _ {M : Type 0} (plan_of : M → Plan) (core_of : M → Core) (plan : Plan
       sym (ap (calls_of h.calls) number) ∙ (own_at at own there).begun) in (
         home.machine,
         final.4 0 (Some home.machine) home.home,
-        home.same_plan,
+        home.of_run,
         record {
           reached = subst (λ (c : Core). IsReached plan c (calls_in v)) (sym home.same_core) (subst (IsReached plan h.core) calls h.reached);
           frames = λ at own there. ap (λ (c : Core). frame_of c.world own.number) home.same_core ∙ (own_at at own there).frame;
           accounts = λ at own there. ap (λ (c : Core). account_of c own.number) home.same_core ∙ (own_at at own there).account;
+          idle = subst (λ (c : Core). (caller : ℕ) → (frame_of c.world caller).stage ≡ stages.Idle) (sym home.same_core) h.idle;
         },
       )
+
+  -- what was taken out of the slot is that machine
+  pub of_taken : (id : ℕ) (v : Sight) (words : List ℕ) (slots : List (Option M)) (machine : M) → v.turn ≡ None → HasAll plan v → Final (Seen (IsTurn runs core_of plan) id v) words slots
+      → get_elem? slots 0 ≡ some (Some machine) → runs plan machine × ShowsAll plan v (core_of machine)
+  of_taken id v words slots machine out all final there =
+      let ending = ends_with id v words slots out all final in
+      let same : ending.0 ≡ machine = same_machine (some-injective (Some ending.0) (Some machine) (sym ending.1 ∙ there)) in
+      subst (λ (m : M). runs plan m × ShowsAll plan v (core_of m)) same (ending.2, ending.3)
+    where
+      same_machine : {a b : M} → Some a ≡ Some b → a ≡ b
+      same_machine same = cc same
+
+  pub none_taken : (id : ℕ) (v : Sight) (words : List ℕ) (slots : List (Option M)) → v.turn ≡ None → HasAll plan v → Final (Seen (IsTurn runs core_of plan) id v) words slots
+      → get_elem? slots 0 ≡ some None → ⊥
+  none_taken id v words slots out all final there =
+      let ending = ends_with id v words slots out all final in
+      no_machine (some-injective (Some ending.0) None (sym ending.1 ∙ there))
+    where
+      no_machine : {a : M} → Some a ≡ None → ⊥
+      no_machine same = cc same

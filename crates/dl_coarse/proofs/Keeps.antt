@@ -1,6 +1,6 @@
 -- Each step keeps the rule of the turn.
 use Rattle.std.proofs.Common.{◌≡◌, ◌≢◌, ℕ, zero, suc, ◌<◌, ◌≤◌, ◌⊎◌, inl, inr, ⊎_elim, Bool, cond, eqb, List, [], ◌∷◌, ◌++◌, length, get_or, set, sym, refl, ap, ◌∙◌, subst, arith, get_or-set_same, length-set, eq-eqb, ne_eqb}
-use Rattle.std.specs.Prelude.{Option, Some, None, Contains, max}
+use Rattle.std.specs.Prelude.{Option, Some, None, true, false, Contains, max}
 use Rattle.std.proofs.Math.Nat.{le-max_left, le-max_right, max-le}
 use Rattle.std.proofs.lemmas.List.Elements.{Contains-append_cases}
 use mathlib.Core.Option.{Option as Slot, none, some, some-injective, some-ne-none}
@@ -8,7 +8,7 @@ use mathlib.Core.Logic.{dite}
 use native.Mathlib.Decide.{ℕ_discrete}
 use lib.ListN.{get_elem?}
 use prog.Atomic.{either}
-use Rattle.atomic_table.specs.Table.{State, Me, step, keeps, takes, stepped, Allows, Splits, Joins, rest}
+use Rattle.atomic_table.specs.Table.{State, Me, step, keeps, takes, stepped, Allows, Splits, Joins, Enters, rest}
 use Rattle.atomic_table.specs.Table as acts
 use Rattle.atomic_table.proofs.Lists.{at_set, at_snoc, at_longer, set_again, set_here, set_else}
 use Rattle.dl_core.specs.Core.{Core, frame_of, account_of, with_call}
@@ -22,8 +22,8 @@ use Rattle.dl_core.specs.declared.stages.Stage.TheVariants as stages
 use Rattle.dl_core.specs.Advances.{RunsTo, ends, goes_on}
 use Rattle.dl_core.specs.Frames.{Frame}
 use Rattle.dl_core.specs.Turns.{Leaves}
-use Rattle.dl_coarse.specs.Sights.{Own, TurnTaken, Sight, blank, note_of, together, own_of, own_after, sight_after, front_by, known_by, glanced, with_turn, with_clock, with_version}
-use Rattle.dl_coarse.specs.Turn.{HasOwn, HasTurn, IsTurn, Got, Missed, GrabTells, MayGive, clocks, versions, sees, gives}
+use Rattle.dl_coarse.specs.Sights.{Own, TurnTaken, Sight, blank, note_of, together, own_of, own_after, sight_after, front_by, known_by, glanced, turn_with, with_turn, with_clock, with_version, with_slot, without_turn}
+use Rattle.dl_coarse.specs.Turn.{HasOwn, HasTurn, IsTurn, Got, Missed, GrabTells, MayGive, MayReturn, clocks, versions, sees, gives, takes_slot, returns_turn, comes_in}
 
 get_set : {X : Type 0} (xs : List X) (j : ℕ) (v w : X) → get_elem? xs j ≡ some v → get_elem? (set xs j w) j ≡ some w
 get_set [] j v w e = absurd (some-ne-none v (sym e))
@@ -43,7 +43,7 @@ same_word [] i = refl
 same_word (x ∷ xs) zero = refl
 same_word (x ∷ xs) (suc i) = ap (λ ws. x ∷ ws) (same_word xs i)
 
-first_in : {X : Type 0} (x : X) (xs : List X) → Contains (x ∷ xs) x
+pub first_in : {X : Type 0} (x : X) (xs : List X) → Contains (x ∷ xs) x
 first_in x xs = (0, omega arith, refl)
 
 -- the one element of a list
@@ -83,6 +83,9 @@ with_seat is there = record { at_seat = there; is_caller = is.is_caller; frame =
 
 pub no_turn : {turn : TurnTaken} → None ≡ Some turn → ⊥
 no_turn same = cc same
+
+not_empty : false ≡ true → ⊥
+not_empty same = cc same
 
 same_turn : {a b : TurnTaken} → Some a ≡ Some b → a ≡ b
 same_turn same = cc same
@@ -132,17 +135,17 @@ module _ (views : List Sight) (id : ℕ) (v w : Sight) (at : get_elem? views id 
       (λ t. let old = h seat sight t.1 in let one = old.0 in let two = old.1 in (omega arith, omega arith))
       (at_set views id seat w sight there)
 
-has_turn_here : (core : Core) (words : List ℕ) (w sight : Sight) (t turn : TurnTaken) → w ≡ sight → w.turn ≡ Some t → sight.turn ≡ Some turn → HasTurn core words w t → HasTurn core words sight turn
-has_turn_here core words w sight t turn same has has_then is =
+pub has_turn_here : {M : Type 0} (core : Core) (words : List ℕ) (homes : List (Slot (Option M))) (w sight : Sight) (t turn : TurnTaken) → w ≡ sight → w.turn ≡ Some t → sight.turn ≡ Some turn → HasTurn core words homes w t → HasTurn core words homes sight turn
+has_turn_here core words homes w sight t turn same has has_then is =
     let turns : t ≡ turn = same_turn (sym has ∙ ap (λ (u : Sight). u.turn) same ∙ has_then) in
-    subst (λ (u : Sight). HasTurn core words u turn) same (subst (HasTurn core words w) turns is)
+    subst (λ (u : Sight). HasTurn core words homes u turn) same (subst (HasTurn core words homes w) turns is)
 
-module _ {M : Type 0} (plan_of : M → Plan) (core_of : M → Core) (plan : Plan) where
+module _ {M : Type 0} (runs : Plan → M → Type 0) (core_of : M → Core) (plan : Plan) where
   abbrev St : Type 0
   St = State (Option M) Sight
 
   abbrev Kept : St → Type 0
-  Kept = IsTurn plan_of core_of plan
+  Kept = IsTurn runs core_of plan
 
   -- who has the turn has it alone
   module _ (s : St) (h : Kept s) where
@@ -157,7 +160,7 @@ module _ {M : Type 0} (plan_of : M → Plan) (core_of : M → Core) (plan : Plan
         sym x.1.at_seat ∙ ap h.owner (sym x.2 ∙ y.2) ∙ y.1.at_seat
 
   pub grabbed : (slots id number : ℕ) (me : Me (Option M) Sight) → me.0.owns ≡ own_of me.0 ∷ [] → (own_of me.0).number ≡ number → me.0.turn ≡ None
-      → Allows Kept slots id me 0 (λ n. either (eqb n 0) number n) (GrabTells plan_of core_of plan me)
+      → Allows Kept slots id me 0 (λ n. either (eqb n 0) number n) (GrabTells runs core_of plan me)
   grabbed slots id number me one is out s h wide at small =
       let own : Own = own_of me.0 in
       let n : ℕ = get_or s.words 0 0 in
@@ -172,10 +175,11 @@ module _ {M : Type 0} (plan_of : M → Plan) (core_of : M → Core) (plan : Plan
       let word : get_or words 0 0 ≡ number = get_or-set_same s.words 0 number 0 (let t = h.wide in omega arith) in
       let clock : get_or words 1 0 ≡ get_or s.words 1 0 = get_or_other s.words 0 1 number (λ e. omega (arith, e)) in
       let version : get_or words 2 0 ≡ get_or s.words 2 0 = get_or_other s.words 0 2 number (λ e. omega (arith, e)) in
-      let turn : TurnTaken = record { core = core_of home.machine; clock = (core_of home.machine).clock; version = (core_of home.machine).pool.version } in
+      let turn : TurnTaken = turn_with (core_of home.machine) false in
+      let homes : List (Slot (Option M)) = set s.homes 0 none in
       let clock_is : (core_of home.machine).clock ≡ h.core.clock = ap (λ (c : Core). c.clock) home.same_core in
       let version_is : (core_of home.machine).pool.version ≡ h.core.pool.version = ap (λ (c : Core). c.pool.version) home.same_core in
-      let has : HasTurn h.core words w turn = record {
+      let has : HasTurn h.core words homes w turn = record {
         own = own;
         mine = subst (λ (owns : List Own). Contains owns own) (sym one) (first_in own []);
         word = word ∙ sym is;
@@ -184,6 +188,7 @@ module _ {M : Type 0} (plan_of : M → Plan) (core_of : M → Core) (plan : Plan
         version = version ∙ home.version ∙ sym version_is;
         clock_up = omega arith;
         version_up = omega arith;
+        vacant = λ empty. absurd (not_empty empty);
       } in
       let kept : Kept (stepped s 0 number id me.1 w (takes 0 (Some home.machine))) = record {
         core = h.core;
@@ -197,18 +202,18 @@ module _ {M : Type 0} (plan_of : M → Plan) (core_of : M → Core) (plan : Plan
         free = λ zero_word. let no : number ≡ 0 = sym word ∙ zero_word in absurd (omega arith);
         out = λ _. record { seat = id; sight = w; turn = turn; there = get_set s.views id me.0 w at; has = refl };
         turns = λ seat sight t there t_is. ⊎_elim
-            (λ x. has_turn_here h.core words w sight turn t x.1 refl t_is has)
+            (λ x. has_turn_here h.core words homes w sight turn t x.1 refl t_is has)
             (λ x. let other = number_of s h seat sight t x.1 t_is in let some = other.1.is_caller.from_one in let word_is = other.2 in absurd (omega arith))
             (at_set s.views id seat w sight there);
         owns = owns_kept s.views id me.0 w at plan h.core h.calls h.owner refl h.owns;
         known = known_kept s.views id me.0 w at (get_or s.words 1 0) (get_or s.words 2 0) (get_or words 1 0) (get_or words 2 0) (omega arith) (omega arith) (omega (arith, bounds.0)) (omega (arith, bounds.1)) h.known;
       } in
-      let got : Got plan_of core_of plan me.0 home.machine = record {
+      let got : Got runs core_of plan me.0 home.machine = record {
         calls = h.calls;
         lists = h.lists;
         frames = ap (λ (c : Core). length c.world.frames) home.same_core ∙ h.frames;
         is_caller = mine.is_caller;
-        same_plan = home.same_plan;
+        of_run = home.of_run;
         reached = subst (λ (c : Core). IsReached plan c h.calls) (sym home.same_core) h.reached;
         idle = subst (λ (c : Core). (caller : ℕ) → (frame_of c.world caller).stage ≡ stages.Idle) (sym home.same_core) h.idle;
         has_frame = ap (λ (c : Core). frame_of c.world own.number) home.same_core ∙ mine.frame;
@@ -252,7 +257,7 @@ module _ {M : Type 0} (plan_of : M → Plan) (core_of : M → Core) (plan : Plan
         owns = owns_kept s.views id me.0 w at plan h.core h.calls h.owner refl h.owns;
         known = known_kept s.views id me.0 w at (get_or s.words 1 0) (get_or s.words 2 0) (get_or s.words 1 0) (get_or s.words 2 0) (omega arith) (omega arith) bounds.0 bounds.1 h.known;
       } in
-      let missed : Missed plan_of core_of plan me.0 n = record {
+      let missed : Missed runs core_of plan me.0 n = record {
         caller_there = caller;
         another = another;
         several = λ alone. another (let a = caller.from_one in let b = caller.to_last in let c = mine.is_caller.to_last in omega arith);
@@ -268,7 +273,7 @@ module _ {M : Type 0} (plan_of : M → Plan) (core_of : M → Core) (plan : Plan
   -- who has the turn writes a word that is not the turn's, or looks at one
   in_turn : (s : St) (h : Kept s) (id i x : ℕ) (v w : Sight) (turn : TurnTaken) → get_elem? s.views id ≡ some v → w.owns ≡ v.owns → i ≢ 0 → w.turn ≡ Some turn
       → get_or s.words 1 0 ≤ get_or (set s.words i x) 1 0 → get_or s.words 2 0 ≤ get_or (set s.words i x) 2 0
-      → HasTurn h.core (set s.words i x) w turn → w.front ≡ v.front → w.known ≡ v.known
+      → HasTurn h.core (set s.words i x) s.homes w turn → w.front ≡ v.front → w.known ≡ v.known
       → (was : TurnTaken) → v.turn ≡ Some was
       → Kept (record { words = set s.words i x; homes = s.homes; views = set s.views id w })
   in_turn s h id i x v w turn at same_owns not_first has up_clock up_version is same_front same_known was had =
@@ -289,7 +294,7 @@ module _ {M : Type 0} (plan_of : M → Plan) (core_of : M → Core) (plan : Plan
         free = λ free. absurd (omega arith);
         out = λ _. record { seat = id; sight = w; turn = turn; there = get_set s.views id v w at; has = has };
         turns = λ seat sight t there t_is. ⊎_elim
-            (λ y. has_turn_here h.core words w sight turn t y.1 has t_is is)
+            (λ y. has_turn_here h.core words s.homes w sight turn t y.1 has t_is is)
             (λ y. absurd (y.0 (one_has s h seat id sight v t was y.1 at t_is had)))
             (at_set s.views id seat w sight there);
         owns = owns_kept s.views id v w at plan h.core h.calls h.owner same_owns h.owns;
@@ -308,7 +313,7 @@ module _ {M : Type 0} (plan_of : M → Plan) (core_of : M → Core) (plan : Plan
       let third : get_or words 2 0 ≡ get_or s.words 2 0 = get_or_other s.words 1 2 clock (λ e. omega (arith, e)) in
       let was = is.clock in
       let low = is.clock_up in
-      let has_then : HasTurn h.core words w (record turn { clock = clock }) = record {
+      let has_then : HasTurn h.core words s.homes w (record turn { clock = clock }) = record {
         own = is.own;
         mine = is.mine;
         word = first ∙ is.word;
@@ -317,6 +322,7 @@ module _ {M : Type 0} (plan_of : M → Plan) (core_of : M → Core) (plan : Plan
         version = third ∙ is.version;
         clock_up = omega arith;
         version_up = is.version_up;
+        vacant = is.vacant;
       } in (
         w,
         keeps,
@@ -337,7 +343,7 @@ module _ {M : Type 0} (plan_of : M → Plan) (core_of : M → Core) (plan : Plan
       let written : get_or words 2 0 ≡ version = get_or-set_same s.words 2 version 0 (let t = h.wide in omega arith) in
       let was = is.version in
       let low = is.version_up in
-      let has_then : HasTurn h.core words w (record turn { version = version }) = record {
+      let has_then : HasTurn h.core words s.homes w (record turn { version = version }) = record {
         own = is.own;
         mine = is.mine;
         word = first ∙ is.word;
@@ -346,6 +352,7 @@ module _ {M : Type 0} (plan_of : M → Plan) (core_of : M → Core) (plan : Plan
         version = written;
         clock_up = is.clock_up;
         version_up = omega arith;
+        vacant = is.vacant;
       } in (
         w,
         keeps,
@@ -363,7 +370,7 @@ module _ {M : Type 0} (plan_of : M → Plan) (core_of : M → Core) (plan : Plan
       let x : ℕ = get_or s.words 2 0 in
       let words : List ℕ = set s.words 2 x in
       let same : words ≡ s.words = same_word s.words 2 in
-      let has_then : HasTurn h.core words w turn = subst (λ (ws : List ℕ). HasTurn h.core ws w turn) (sym same) record {
+      let has_then : HasTurn h.core words s.homes w turn = subst (λ (ws : List ℕ). HasTurn h.core ws s.homes w turn) (sym same) record {
         own = is.own;
         mine = is.mine;
         word = is.word;
@@ -372,6 +379,7 @@ module _ {M : Type 0} (plan_of : M → Plan) (core_of : M → Core) (plan : Plan
         version = is.version;
         clock_up = is.clock_up;
         version_up = is.version_up;
+        vacant = is.vacant;
       } in
       let second = ap (λ (ws : List ℕ). get_or ws 1 0) same in
       let third = ap (λ (ws : List ℕ). get_or ws 2 0) same in (
@@ -380,6 +388,101 @@ module _ {M : Type 0} (plan_of : M → Plan) (core_of : M → Core) (plan : Plan
         tt,
         in_turn s h id 2 x me.0 w turn at refl (λ e. omega (arith, e)) has (omega arith) (omega arith) has_then refl refl turn has,
         λ other has_other. let same : turn ≡ other = same_turn (sym has ∙ has_other) in (is.version ∙ ap (λ (t : TurnTaken). t.version) same, ap (λ (t : TurnTaken). (glanced (Loaded 2 t.version) me.0, me.1)) same),
+      )
+
+  -- the slot is taken, in which nothing is
+  pub filled : (slots id : ℕ) (me : Me (Option M) Sight) (turn : TurnTaken) → me.0.turn ≡ Some turn → turn.empty ≡ true
+      → Allows Kept slots id me 0 (λ n. n) (takes_slot (step slots 0 0 0 none) me)
+  filled slots id me turn has empty s h wide at small =
+      let is = h.turns id me.0 turn at has in
+      let x : ℕ = get_or s.words 0 0 in
+      let now : TurnTaken = record turn { empty = false } in
+      let w : Sight = with_slot turn (glanced (Loaded 0 x) me.0) in
+      let homes : List (Slot (Option M)) = set s.homes 0 none in
+      let same : set s.words 0 x ≡ s.words = same_word s.words 0 in
+      let bounds = h.known id me.0 at in
+      let mine = number_of s h id me.0 turn at has in
+      let above = mine.1.is_caller.from_one in
+      let word_is = mine.2 in
+      let has_then : HasTurn h.core s.words homes w now = record {
+        own = is.own;
+        mine = is.mine;
+        word = is.word;
+        same_core = is.same_core;
+        clock = is.clock;
+        version = is.version;
+        clock_up = is.clock_up;
+        version_up = is.version_up;
+        vacant = λ no. absurd (not_empty no);
+      } in
+      let kept : Kept (record { words = s.words; homes = homes; views = set s.views id w }) = record {
+        core = h.core;
+        calls = h.calls;
+        owner = h.owner;
+        reached = h.reached;
+        idle = h.idle;
+        lists = h.lists;
+        frames = h.frames;
+        wide = h.wide;
+        free = λ free. absurd (omega arith);
+        out = λ _. record { seat = id; sight = w; turn = now; there = get_set s.views id me.0 w at; has = refl };
+        turns = λ seat sight t there t_is. ⊎_elim
+            (λ y. has_turn_here h.core s.words homes w sight now t y.1 refl t_is has_then)
+            (λ y. absurd (y.0 (one_has s h seat id sight me.0 t turn y.1 at t_is has)))
+            (at_set s.views id seat w sight there);
+        owns = owns_kept s.views id me.0 w at plan h.core h.calls h.owner refl h.owns;
+        known = known_kept s.views id me.0 w at (get_or s.words 1 0) (get_or s.words 2 0) (get_or s.words 1 0) (get_or s.words 2 0) (omega arith) (omega arith) bounds.0 bounds.1 h.known;
+      } in (
+        w,
+        takes 0 None,
+        is.vacant empty,
+        subst (λ (ws : List ℕ). Kept (record { words = ws; homes = homes; views = set s.views id w })) (sym same) kept,
+        λ other has_other empty_too. ap (λ (t : TurnTaken). (with_slot t (glanced (Loaded 0 x) me.0), (0, None) ∷ me.1)) (same_turn (sym has ∙ has_other)),
+      )
+
+  -- the machine that comes with the turn is put into the slot, and the turn given back, with no operation in between
+  pub returned : (slots id : ℕ) (me : Me (Option M) Sight) (machine : M) → MayReturn runs core_of plan me.0 machine → me.1 ≡ (0, Some machine) ∷ [] → 0 < slots
+      → Allows Kept slots id me 0 (λ _. 0) (λ _. returns_turn (step slots 0 0 0 none) me 0)
+  returned slots id me machine may carried slot s h wide at small =
+      let is = h.turns id me.0 may.turn at may.has in
+      let after : Sight = without_turn (glanced (Stored 0) me.0) in
+      let words : List ℕ = set s.words 0 0 in
+      let written : get_or words 0 0 ≡ 0 = get_or-set_same s.words 0 0 0 (let t = h.wide in omega arith) in
+      let second : get_or words 1 0 ≡ get_or s.words 1 0 = get_or_other s.words 0 1 0 (λ e. omega (arith, e)) in
+      let third : get_or words 2 0 ≡ get_or s.words 2 0 = get_or_other s.words 0 2 0 (λ e. omega (arith, e)) in
+      let homes : List (Slot (Option M)) = set s.homes 0 (some (Some machine)) in
+      let same_core : core_of machine ≡ h.core = sym may.same_core ∙ is.same_core in
+      let bounds = h.known id me.0 at in
+      let kept : Kept (record { words = words; homes = homes; views = set s.views id after }) = record {
+        core = h.core;
+        calls = h.calls;
+        owner = h.owner;
+        reached = h.reached;
+        idle = h.idle;
+        lists = h.lists;
+        frames = h.frames;
+        wide = length-set s.words 0 0 ∙ h.wide;
+        free = λ _. record {
+          machine = machine;
+          home = set_here s.homes 0 (some (Some machine)) (omega arith);
+          of_run = may.of_run;
+          same_core = same_core;
+          clock = second ∙ is.clock ∙ may.clock ∙ ap (λ (c : Core). c.clock) same_core;
+          version = third ∙ is.version ∙ may.version ∙ ap (λ (c : Core). c.pool.version) same_core;
+        };
+        out = λ taken. absurd (taken written);
+        turns = λ seat sight t there t_is. ⊎_elim
+            (λ x. absurd (no_turn (ap (λ (u : Sight). u.turn) x.1 ∙ t_is)))
+            (λ x. absurd (x.0 (one_has s h seat id sight me.0 t may.turn x.1 at t_is may.has)))
+            (at_set s.views id seat after sight there);
+        owns = owns_kept s.views id me.0 after at plan h.core h.calls h.owner refl h.owns;
+        known = known_kept s.views id me.0 after at (get_or s.words 1 0) (get_or s.words 2 0) (get_or words 1 0) (get_or words 2 0) (omega arith) (omega arith) (omega (arith, bounds.0)) (omega (arith, bounds.1)) h.known;
+      } in (
+        after,
+        acts.gives,
+        tt,
+        subst (λ (c : List (ℕ × Option M)). Kept (stepped s 0 0 id c after acts.gives)) (sym carried) kept,
+        refl,
       )
 
   -- what a pass knows after an operation is no more than the core that it leaves
@@ -404,7 +507,7 @@ module _ {M : Type 0} (plan_of : M → Plan) (core_of : M → Core) (plan : Plan
   up_to (progress.Raced seen now) front known number call core after f k leaves = absurd leaves.leaves_by
 
   -- the core is given back after one more operation, and the turn with it
-  pub given : (slots id : ℕ) (me : Me (Option M) Sight) (machine : M) (call : Call) (answer : Progress) → MayGive plan_of core_of plan me.0 machine call answer → me.1 ≡ (0, Some machine) ∷ [] → 0 < slots
+  pub given : (slots id : ℕ) (me : Me (Option M) Sight) (machine : M) (call : Call) (answer : Progress) → MayGive runs core_of plan me.0 machine call answer → me.1 ≡ (0, Some machine) ∷ [] → 0 < slots
       → Allows Kept slots id me 0 (λ _. 0) (λ _. gives (sight_after (core_of machine) call answer me.0) (step slots 0 0 0 none) me 0)
   given slots id me machine call answer may carried slot s h wide at small =
       let after : Sight = sight_after (core_of machine) call answer me.0 in
@@ -446,7 +549,7 @@ module _ {M : Type 0} (plan_of : M → Plan) (core_of : M → Core) (plan : Plan
         free = λ _. record {
           machine = machine;
           home = set_here s.homes 0 (some (Some machine)) (omega arith);
-          same_plan = may.same_plan;
+          of_run = may.of_run;
           same_core = refl;
           clock = second ∙ is.clock ∙ may.clock;
           version = third ∙ is.version ∙ may.version;
@@ -492,45 +595,56 @@ module _ {M : Type 0} (plan_of : M → Plan) (core_of : M → Core) (plan : Plan
 pub in_front : {A : Type 0} (l xs : List (ℕ × A)) (x : ℕ × A) → l ≡ x ∷ xs → l ≡ x ∷ rest l
 in_front {A} l xs x e = subst (λ (z : List (ℕ × A)). z ≡ x ∷ rest z) (sym e) refl
 
-module _ {M : Type 0} (plan_of : M → Plan) (core_of : M → Core) (plan : Plan) where
+module _ {M : Type 0} (runs : Plan → M → Type 0) (core_of : M → Core) (plan : Plan) where
+  -- a seat more that has nothing
+  one_more : (s : State (Option M) Sight) → IsTurn runs core_of plan s → (w : Sight) → w.owns ≡ [] → w.turn ≡ None → w.front ≤ get_or s.words 1 0 → w.known ≤ get_or s.words 2 0
+      → IsTurn runs core_of plan record { words = s.words; homes = s.homes; views = s.views ++ w ∷ [] }
+  one_more s h w nothing w_out front known = record {
+    core = h.core;
+    calls = h.calls;
+    owner = h.owner;
+    reached = h.reached;
+    idle = h.idle;
+    lists = h.lists;
+    frames = h.frames;
+    wide = h.wide;
+    free = λ free. let home = h.free free in record { machine = home.machine; home = home.home; of_run = home.of_run; same_core = home.same_core; clock = home.clock; version = home.version };
+    out = λ taken. let out = h.out taken in record { seat = out.seat; sight = out.sight; turn = out.turn; there = at_longer s.views (w ∷ []) out.seat out.sight out.there; has = out.has };
+    turns = λ seat sight turn there has. ⊎_elim (λ old. h.turns seat sight turn old has) (λ new. absurd (no_turn (sym w_out ∙ ap (λ (u : Sight). u.turn) new ∙ has))) (at_snoc s.views w sight seat there);
+    owns = λ seat sight own there mine. ⊎_elim
+        (λ old. h.owns seat sight own old mine)
+        (λ new. absurd (none_in own (subst (λ (owns : List Own). Contains owns own) nothing (subst (λ (u : Sight). Contains u.owns own) (sym new) mine))))
+        (at_snoc s.views w sight seat there);
+    known = λ seat sight there. ⊎_elim
+        (λ old. h.known seat sight old)
+        (λ new. subst (λ (u : Sight). (u.front ≤ get_or s.words 1 0) × (u.known ≤ get_or s.words 2 0)) new (front, known))
+        (at_snoc s.views w sight seat there);
+  }
+
   -- a note is made
-  pub noted : (id : ℕ) (v : Sight) → Splits (IsTurn plan_of core_of plan) id v v (note_of v)
+  pub noted : (id : ℕ) (v : Sight) → Splits (IsTurn runs core_of plan) id v v (note_of v)
   noted id v s h at =
       let same : set s.views id v ≡ s.views = set_again s.views id v at in
-      subst (λ (vs : List Sight). IsTurn plan_of core_of plan record { words = s.words; homes = s.homes; views = vs ++ note_of v ∷ [] }) (sym same) record {
-        core = h.core;
-        calls = h.calls;
-        owner = h.owner;
-        reached = h.reached;
-        idle = h.idle;
-        lists = h.lists;
-        frames = h.frames;
-        wide = h.wide;
-        free = λ free. let home = h.free free in record { machine = home.machine; home = home.home; same_plan = home.same_plan; same_core = home.same_core; clock = home.clock; version = home.version };
-        out = λ taken. let out = h.out taken in record { seat = out.seat; sight = out.sight; turn = out.turn; there = at_longer s.views (note_of v ∷ []) out.seat out.sight out.there; has = out.has };
-        turns = λ seat sight turn there has. ⊎_elim (λ old. h.turns seat sight turn old has) (λ new. absurd (no_turn (ap (λ (u : Sight). u.turn) new ∙ has))) (at_snoc s.views (note_of v) sight seat there);
-        owns = λ seat sight own there mine. ⊎_elim
-            (λ old. h.owns seat sight own old mine)
-            (λ new. let nothing : Contains [] own = subst (λ (u : Sight). Contains u.owns own) (sym new) mine in absurd (none_in own nothing))
-            (at_snoc s.views (note_of v) sight seat there);
-        known = λ seat sight there. ⊎_elim
-            (λ old. h.known seat sight old)
-            (λ new. subst (λ (u : Sight). (u.front ≤ get_or s.words 1 0) × (u.known ≤ get_or s.words 2 0)) new (h.known id v at))
-            (at_snoc s.views (note_of v) sight seat there);
-      }
+      let bounds = h.known id v at in
+      subst (λ (vs : List Sight). IsTurn runs core_of plan record { words = s.words; homes = s.homes; views = vs ++ note_of v ∷ [] }) (sym same) (one_more s h (note_of v) refl refl bounds.0 bounds.1)
+
+  -- a seat comes in that knows and has nothing
+  pub come : (slots : ℕ) (first : Sight) → Enters (IsTurn runs core_of plan) slots 0 (λ n w. comes_in {M = M} (step slots 0 0 0 none) (first, []) n (w, []))
+  come slots first s h wide small = (blank, one_more s h blank refl refl (omega arith) (omega arith), refl)
 
   -- what a seat without a turn knows and has is taken in by another
-  pub joined_with : (id other : ℕ) (v w : Sight) → v.turn ≡ None → w.turn ≡ None
-      → Joins (IsTurn plan_of core_of plan) id v other w (together v w) blank
-  joined_with id other v w v_out w_out s h at apart there =
-      let both : Sight = together v w in
+  joined_by : (id other : ℕ) (v w both : Sight) → v.turn ≡ None → w.turn ≡ None → both.turn ≡ None
+      → ((own : Own) → Contains both.owns own → Contains v.owns own ⊎ Contains w.owns own)
+      → ((most : ℕ) → v.front ≤ most → w.front ≤ most → both.front ≤ most) → ((most : ℕ) → v.known ≤ most → w.known ≤ most → both.known ≤ most)
+      → Joins (IsTurn runs core_of plan) id v other w both blank
+  joined_by id other v w both v_out w_out both_out either_owns front_up known_up s h at apart there =
       let vs : List Sight = set s.views id both in
       let was : get_elem? s.views other ≡ some w = sym (set_else s.views id other both apart) ∙ there in
       let owner : ℕ → ℕ = λ (number : ℕ). moved (h.owner number) other id in
       let mine = h.known id v at in
       let theirs = h.known other w was in
-      let up = max-le mine.0 theirs.0 in
-      let up_known = max-le mine.1 theirs.1 in
+      let up = front_up (get_or s.words 1 0) mine.0 theirs.0 in
+      let up_known = known_up (get_or s.words 2 0) mine.1 theirs.1 in
       let outside : (seat : ℕ) (sight : Sight) (turn : TurnTaken) → get_elem? s.views seat ≡ some sight → sight.turn ≡ Some turn → (seat ≢ id) × (seat ≢ other)
       = λ seat sight turn is has. (
         (λ same. no_turn (sym v_out ∙ ap (λ (u : Sight). u.turn) (some-injective v sight (sym at ∙ sym (ap (get_elem? s.views) same) ∙ is)) ∙ has)),
@@ -544,7 +658,7 @@ module _ {M : Type 0} (plan_of : M → Plan) (core_of : M → Core) (plan : Plan
         lists = h.lists;
         frames = h.frames;
         wide = h.wide;
-        free = λ free. let home = h.free free in record { machine = home.machine; home = home.home; same_plan = home.same_plan; same_core = home.same_core; clock = home.clock; version = home.version };
+        free = λ free. let home = h.free free in record { machine = home.machine; home = home.home; of_run = home.of_run; same_core = home.same_core; clock = home.clock; version = home.version };
         out = λ taken.
             let out = h.out taken in
             let away = outside out.seat out.sight out.turn out.there out.has in
@@ -552,7 +666,7 @@ module _ {M : Type 0} (plan_of : M → Plan) (core_of : M → Core) (plan : Plan
         turns = λ seat sight turn is has. ⊎_elim
             (λ x. absurd (no_turn (ap (λ (u : Sight). u.turn) x.1 ∙ has)))
             (λ x. ⊎_elim
-            (λ y. absurd (no_turn (sym v_out ∙ ap (λ (u : Sight). u.turn) y.1 ∙ has)))
+            (λ y. absurd (no_turn (sym both_out ∙ ap (λ (u : Sight). u.turn) y.1 ∙ has)))
             (λ y. h.turns seat sight turn y.1 has)
             (at_set s.views id seat both sight x.1))
             (at_set vs other seat blank sight is);
@@ -560,11 +674,11 @@ module _ {M : Type 0} (plan_of : M → Plan) (core_of : M → Core) (plan : Plan
             (λ x. absurd (none_in own (subst (λ (u : Sight). Contains u.owns own) (sym x.1) mine_too)))
             (λ x. ⊎_elim
             (λ y.
-            let both_own : Contains (v.owns ++ w.owns) own = subst (λ (u : Sight). Contains u.owns own) (sym y.1) mine_too in
+            let both_own : Contains both.owns own = subst (λ (u : Sight). Contains u.owns own) (sym y.1) mine_too in
             ⊎_elim
             (λ of_v. with_seat (h.owns id v own at of_v) (ap (λ (k : ℕ). moved k other id) (h.owns id v own at of_v).at_seat ∙ moved_else id other id (λ same. apart (sym same)) ∙ sym y.0))
             (λ of_w. with_seat (h.owns other w own was of_w) (ap (λ (k : ℕ). moved k other id) (h.owns other w own was of_w).at_seat ∙ moved_here other id ∙ sym y.0))
-            (Contains-append_cases v.owns w.owns own both_own))
+            (either_owns own both_own))
             (λ y. with_seat (h.owns seat sight own y.1 mine_too) (ap (λ (k : ℕ). moved k other id) (h.owns seat sight own y.1 mine_too).at_seat ∙ moved_else seat other id x.0))
             (at_set s.views id seat both sight x.1))
             (at_set vs other seat blank sight is);
@@ -577,6 +691,16 @@ module _ {M : Type 0} (plan_of : M → Plan) (core_of : M → Core) (plan : Plan
             (at_set vs other seat blank sight is);
       }
 
+  pub joined_with : (id other : ℕ) (v w : Sight) → v.turn ≡ None → w.turn ≡ None → Joins (IsTurn runs core_of plan) id v other w (together v w) blank
+  joined_with id other v w v_out w_out =
+      joined_by id other v w (together v w) v_out w_out v_out (Contains-append_cases v.owns w.owns) (λ most low low_too. max-le low low_too) (λ most low low_too. max-le low low_too)
+
+  -- the same with the other's own in front
+  pub joined_before : (id other : ℕ) (v w : Sight) → v.turn ≡ None → w.turn ≡ None → Joins (IsTurn runs core_of plan) id v other w (together w v) blank
+  joined_before id other v w v_out w_out =
+      joined_by id other v w (together w v) v_out w_out w_out (λ own there. ⊎_elim (λ a. inr a) (λ b. inl b) (Contains-append_cases w.owns v.owns own there)) (λ most low low_too. max-le low_too low)
+      (λ most low low_too. max-le low_too low)
+
 -- an element of a list with one more behind it
 at_end : {X : Type 0} (l : List X) (a b : X) (j : ℕ) → get_elem? (l ++ a ∷ []) j ≡ some b → (get_elem? l j ≡ some b) ⊎ ((j ≡ length l) × (a ≡ b))
 at_end [] a b zero e = inr (refl, some-injective a b e)
@@ -587,10 +711,10 @@ at_end (x ∷ xs) a b (suc j) e = ⊎_elim (λ t. inl t) (λ t. inr (ap suc t.0,
 behind_in : {X : Type 0} (x y : X) (xs : List X) → Contains xs y → Contains (x ∷ xs) y
 behind_in x y xs there = let within = there.1 in (suc there.0, omega arith, there.2)
 
-module _ {M : Type 0} (plan_of : M → Plan) (core_of : M → Core) (plan : Plan) where
+module _ {M : Type 0} (runs : Plan → M → Type 0) (core_of : M → Core) (plan : Plan) where
   -- one caller's own is given to a seat of its own
   pub dealt : (id : ℕ) (v : Sight) (own : Own) (others : List Own) → v.owns ≡ own ∷ others → v.turn ≡ None → ((other : Own) → Contains others other → other.number ≢ own.number)
-      → Splits (IsTurn plan_of core_of plan) id v (record v { owns = others }) (record (note_of v) { owns = own ∷ [] })
+      → Splits (IsTurn runs core_of plan) id v (record v { owns = others }) (record (note_of v) { owns = own ∷ [] })
   dealt id v own others all out apart s h at =
       let left : Sight = record v { owns = others } in
       let right : Sight = record (note_of v) { owns = own ∷ [] } in
@@ -608,7 +732,7 @@ module _ {M : Type 0} (plan_of : M → Plan) (core_of : M → Core) (plan : Plan
         lists = h.lists;
         frames = h.frames;
         wide = h.wide;
-        free = λ free. let home = h.free free in record { machine = home.machine; home = home.home; same_plan = home.same_plan; same_core = home.same_core; clock = home.clock; version = home.version };
+        free = λ free. let home = h.free free in record { machine = home.machine; home = home.home; of_run = home.of_run; same_core = home.same_core; clock = home.clock; version = home.version };
         out = λ taken.
             let there = h.out taken in
             record {

@@ -1,4 +1,9 @@
 pub mod Keeps
+pub mod Starting
+pub mod Dealing
 pub mod Views
 pub mod Rooms
 pub mod Ending
+pub mod Gathering
+pub mod Stepping
+pub mod LoneTurn

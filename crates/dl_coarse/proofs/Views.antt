@@ -1,6 +1,6 @@
 -- What a pass comes to by one turn.
 use Rattle.std.proofs.Common.{◌≡◌, ◌≢◌, ℕ, ◌+◌, ◌<◌, List, [], ◌∷◌, ◌++◌, length, sym, refl, ap, ◌∙◌, subst, arith, get_or-set_same, length-append, map}
-use Rattle.std.specs.Prelude.{Option, Some, None}
+use Rattle.std.specs.Prelude.{Option, Some, None, false}
 use Rattle.std.specs.List.{zip}
 use Rattle.atomic_table.specs.Table.{Me}
 use Rattle.dl_ir.specs.declared.answers.Entry.{Entry}
@@ -22,16 +22,22 @@ use Rattle.dl_core.specs.Plans.{Plan, source_of, size_of}
 use Rattle.dl_core.specs.Reached.{with_begun, begins, MayBegin}
 use Rattle.dl_core.specs.Turns.{MayRun, Leaves}
 use Rattle.dl_coarse.specs.Marks.{IsMarked, MayMark, LookBy, StaysBy}
-use Rattle.dl_coarse.specs.Sights.{Own, TurnTaken, Sight, IsResting, own_of, glanced, with_turn, sight_after, view_with}
+use Rattle.dl_coarse.specs.Sights.{Own, TurnTaken, Sight, IsResting, own_of, glanced, turn_with, with_turn, sight_after, view_with}
 use Rattle.dl_coarse.specs.Turn.{Got, Missed, MayGive}
 use Rattle.dl_coarse.proofs.Keeps.{begun_own}
+
+-- what running an operation leaves, where the caller's number is written in two ways
+pub leaves_here : {M : Type 0} (core_of : M → Core) (plan : Plan) (machine then : M) (number given : ℕ) (call : Call) (answer : Progress) → number ≡ given → MayRun plan (core_of machine) number call
+    → (MayRun plan (core_of machine) given call → Leaves plan (core_of machine) given call answer (core_of then)) → Leaves plan (core_of machine) number call answer (core_of then)
+leaves_here core_of plan machine then number given call answer same may leaves =
+    subst (λ (n : ℕ). Leaves plan (core_of machine) n call answer (core_of then)) (sym same) (leaves (subst (λ (n : ℕ). MayRun plan (core_of machine) n call) same may))
 
 is_called : stages.Called ≢ stages.Idle
 is_called same = cc same
 
-module _ {M : Type 0} (plan_of : M → Plan) (core_of : M → Core) (plan : Plan) (before : Sight) (call : Call) (resting : IsResting before) where
+module _ {M : Type 0} (runs : Plan → M → Type 0) (core_of : M → Core) (plan : Plan) (before : Sight) (call : Call) (resting : IsResting before) where
   -- a try that found another caller's number
-  pub waits : (found : ℕ) → Missed plan_of core_of plan before found
+  pub waits : (found : ℕ) → Missed runs core_of plan before found
       → WaitsStill OneTurn plan (view_with (Some call) before) locks.Turn found (view_with (Some call) (glanced (Compared 0 found) before))
   waits found missed = record {
     busy = is_called;
@@ -44,7 +50,7 @@ module _ {M : Type 0} (plan_of : M → Plan) (core_of : M → Core) (plan : Plan
     several = missed.several;
   }
 
-  module _ (machine : M) (got : Got plan_of core_of plan before machine) (room : length (own_of before).calls < size_of plan (own_of before).number) (fits : IsCallOf (source_of plan) call) where
+  module _ (machine : M) (got : Got runs core_of plan before machine) (room : length (own_of before).calls < size_of plan (own_of before).number) (fits : IsCallOf (source_of plan) call) where
     may_begin : MayBegin plan (core_of machine) got.calls (own_of before).number call
     may_begin = record {
       is_caller = got.is_caller;
@@ -53,15 +59,12 @@ module _ {M : Type 0} (plan_of : M → Plan) (core_of : M → Core) (plan : Plan
       fits = fits;
     }
 
-    pub may_run : MayRun (plan_of machine) (core_of machine) (own_of before).number call
-    may_run = subst (λ (p : Plan). MayRun p (core_of machine) (own_of before).number call) (sym got.same_plan) record { calls = got.calls; reached = got.reached; may = may_begin; rest = got.idle }
+    pub may_run : MayRun plan (core_of machine) (own_of before).number call
+    may_run = record { calls = got.calls; reached = got.reached; may = may_begin; rest = got.idle }
 
-    module _ (then : M) (answer : Progress) (same_plan : plan_of then ≡ plan_of machine) (leaves_there : Leaves (plan_of machine) (core_of machine) (own_of before).number call answer (core_of then)) where
-      leaves : Leaves plan (core_of machine) (own_of before).number call answer (core_of then)
-      leaves = subst (λ (p : Plan). Leaves p (core_of machine) (own_of before).number call answer (core_of then)) got.same_plan leaves_there
-
+    module _ (then : M) (answer : Progress) (of_run : runs plan then) (leaves : Leaves plan (core_of machine) (own_of before).number call answer (core_of then)) where
       abbrev turn : TurnTaken
-      turn = record { core = core_of machine; clock = (core_of machine).clock; version = (core_of machine).pool.version }
+      turn = turn_with (core_of machine) false
 
       stays_by : (given : Progress) → Leaves plan (core_of machine) (own_of before).number call given (core_of then) → StaysBy given turn (core_of then)
       stays_by (progress.Done entry) is = tt
@@ -85,14 +88,14 @@ module _ {M : Type 0} (plan_of : M → Plan) (core_of : M → Core) (plan : Plan
           is.sight ∙ ap (λ (s : Sight). record s { turn = marked.0.turn; look = marked.0.look }) same
           ∙ ap (λ (t : Option TurnTaken). record before { turn = t; look = marked.0.look }) (is.turn_then turn (ap (λ (s : Sight). s.turn) same))
 
-      may_give_sight : (look : Look) → MayGive plan_of core_of plan (marked_sight look) then call answer
+      may_give_sight : (look : Look) → MayGive runs core_of plan (marked_sight look) then call answer
       may_give_sight look = record {
         turn = record turn { clock = (core_of then).clock; version = (core_of then).pool.version };
         has = refl;
         one = resting.one;
         fits = fits;
         room = room;
-        same_plan = same_plan ∙ got.same_plan;
+        of_run = of_run;
         leaves = leaves;
         clock = refl;
         version = refl;
@@ -100,8 +103,8 @@ module _ {M : Type 0} (plan_of : M → Plan) (core_of : M → Core) (plan : Plan
         known = got.known;
       }
 
-      pub may_give : (sight : Sight) → sight ≡ marked_sight sight.look → MayGive plan_of core_of plan sight then call answer
-      may_give sight same = subst (λ (s : Sight). MayGive plan_of core_of plan s then call answer) (sym same) (may_give_sight sight.look)
+      pub may_give : (sight : Sight) → sight ≡ marked_sight sight.look → MayGive runs core_of plan sight then call answer
+      may_give sight same = subst (λ (s : Sight). MayGive runs core_of plan s then call answer) (sym same) (may_give_sight sight.look)
 
       abbrev own : Own
       own = own_of before
@@ -135,6 +138,21 @@ module _ {M : Type 0} (plan_of : M → Plan) (core_of : M → Core) (plan : Plan
 
       index_is : (frame_of (core_of machine).world own.number).index + 1 ≡ length (own.calls ++ call ∷ [])
       index_is = let a = ap (λ (f : Frame). f.index) got.has_frame in let b = resting.index in let m = many_calls in omega arith
+
+      -- the seat rests after the turn is given back
+      pub rests : (sight marked : Sight) (look : Look) → marked ≡ marked_sight look → sight ≡ sight_after (core_of then) call answer marked → IsResting sight × ((own_of sight).number ≡ own.number)
+      rests sight marked look marked_is is =
+          let whole : sight ≡ sight_after (core_of then) call answer (marked_sight look) = is ∙ ap (sight_after (core_of then) call answer) marked_is in
+          subst (λ (s : Sight). IsResting s × ((own_of s).number ≡ own.number)) (sym whole) (
+            record {
+              one = refl;
+              no_turn = refl;
+              idle = leaves.rest;
+              index = leaves.index ∙ index_is;
+              unreserved = leaves.unreserved;
+            },
+            refl,
+          )
 
       is_done : (entry : Entry) (sight : Sight) → Leaves plan (core_of machine) own.number call (progress.Done entry) (core_of then)
           → IsDone OneTurn plan (view_with (Some call) before) entry (view_with None (sight_after (core_of then) call (progress.Done entry) (record before { turn = sight.turn; look = sight.look })))

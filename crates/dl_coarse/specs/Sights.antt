@@ -1,6 +1,6 @@
 -- What a seat of the turn's table knows.
-use Rattle.std.specs.Prelude.{◌≡◌, ℕ, max, length, ◌++◌, Option, Some, None, List, [], ◌∷◌, refl}
-use Rattle.std.specs.Coded.{Coded, code_by, coded×, coded_ℕ, coded_list, coded_option}
+use Rattle.std.specs.Prelude.{◌≡◌, ℕ, max, length, ◌++◌, Option, Some, None, Bool, false, List, [], ◌∷◌, refl}
+use Rattle.std.specs.Coded.{Coded, code_by, coded×, coded_ℕ, coded_bool, coded_list, coded_option}
 use Rattle.dl_ir.specs.declared.calls.Call.{Call}
 use Rattle.dl_core.specs.Frames.{Frame, idle}
 use Rattle.dl_core.specs.Core.{Account, Core, no_account, frame_of, account_of}
@@ -18,11 +18,13 @@ pub record Own : Type 0 where
   pub frame : Frame
   pub account : Account
 
--- the turn: the core that was taken with it, and what the words of the ticket and of the version hold
+-- the turn: the core that was taken with it, what the words of the ticket and of the version hold, and whether nothing was put into the
+-- slot yet, as at the start
 pub record TurnTaken : Type 0 where
   pub core : Core
   pub clock : ℕ
   pub version : ℕ
+  pub empty : Bool
 
 -- what a seat knows. That of a pass has one caller's own; that of a note, and one that a join leaves behind, has nobody's
 pub record Sight : Type 0 where
@@ -37,7 +39,7 @@ coded_own = code_by (ℕ × (List Call × (Frame × Account))) (coded× coded_�
     (λ o. (o.number, (o.calls, (o.frame, o.account)))) (λ p. record { number = p.0; calls = p.1.0; frame = p.1.1.0; account = p.1.1.1 }) (λ _. refl)
 
 abbrev pub coded_turn : Coded TurnTaken
-coded_turn = code_by (Core × (ℕ × ℕ)) (coded× coded_core (coded× coded_ℕ coded_ℕ)) (λ t. (t.core, (t.clock, t.version))) (λ p. record { core = p.0; clock = p.1.0; version = p.1.1 }) (λ _. refl)
+coded_turn = code_by (Core × (ℕ × (ℕ × Bool))) (coded× coded_core (coded× coded_ℕ (coded× coded_ℕ coded_bool))) (λ t. (t.core, (t.clock, (t.version, t.empty)))) (λ p. record { core = p.0; clock = p.1.0; version = p.1.1.0; empty = p.1.1.1 }) (λ _. refl)
 
 abbrev pub coded_sight : Coded Sight
 coded_sight = code_by (List Own × (Option TurnTaken × (ℕ × (ℕ × Look)))) (coded× (coded_list coded_own) (coded× (coded_option coded_turn) (coded× coded_ℕ (coded× coded_ℕ coded_look))))
@@ -62,9 +64,13 @@ own_of sight = own_in sight.owns
 abbrev pub glanced : Glance → Sight → Sight
 glanced glance sight = record sight { look = looked glance sight.look }
 
+-- the turn with a core, whose ticket and version the words hold
+abbrev pub turn_with : Core → Bool → TurnTaken
+turn_with core empty = record { core = core; clock = core.clock; version = core.pool.version; empty = empty }
+
 -- the turn was taken with a core
 abbrev pub with_turn : Core → Sight → Sight
-with_turn core sight = record sight { turn = Some (record { core = core; clock = core.clock; version = core.pool.version }) }
+with_turn core sight = record sight { turn = Some (turn_with core false) }
 
 -- the last ticket, and the version, were written
 abbrev pub with_clock : ℕ → TurnTaken → Sight → Sight
@@ -73,9 +79,27 @@ with_clock clock turn sight = record sight { turn = Some (record turn { clock = 
 abbrev pub with_version : ℕ → TurnTaken → Sight → Sight
 with_version version turn sight = record sight { turn = Some (record turn { version = version }) }
 
+-- the slot was taken, and the turn was given back
+abbrev pub with_slot : TurnTaken → Sight → Sight
+with_slot turn sight = record sight { turn = Some (record turn { empty = false }) }
+
+abbrev pub without_turn : Sight → Sight
+without_turn sight = record sight { turn = None }
+
 -- what a note knows
 abbrev pub note_of : Sight → Sight
 note_of sight = record blank { front = sight.front; known = sight.known }
+
+-- the first caller's own is given to a seat of its own, and what stands behind it stays
+abbrev pub behind : List Own → List Own
+behind [] = []
+behind (own ∷ owns) = owns
+
+abbrev pub without_first : Sight → Sight
+without_first sight = record sight { owns = behind sight.owns }
+
+abbrev pub first_alone : Sight → Sight
+first_alone sight = record (note_of sight) { owns = own_of sight ∷ [] }
 
 -- all that two seats know and have
 abbrev pub together : Sight → Sight → Sight

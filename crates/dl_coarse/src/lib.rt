@@ -1,7 +1,9 @@
 //! One turn for all callers: who has it runs its operation to the end.
 #![tactic(auto)]
 
+mod closings;
 mod machines;
+mod openings;
 mod passes;
 mod rule;
 mod running;

@@ -1,4 +1,6 @@
 // The table with one turn, its passes and its notes.
+ghost use Rattle.std.specs.Prelude.{◌≡◌};
+
 use crate::machines::Machine;
 use crate::rule::{Hold, Turn};
 use atomic_table::{Seat, Table};
@@ -8,6 +10,7 @@ use std::alloc::Global;
 #[derive(Drop)]
 pub struct Coarse<M: Machine> {
     pub(crate) table: Table<Option<M>, Hold, M, Turn<M>, Global>,
+    pub ghost counts: { (table.shared.table_id.words ≡ 3) × (table.shared.table_id.slots ≡ 1) },
 }
 
 /// One caller's way in, with the call in hand.

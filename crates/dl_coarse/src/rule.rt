@@ -27,9 +27,9 @@ pub struct Turn<M> {
 
 impl<M: Machine> TableRule<Option<M>, Hold, M> for Turn<M> {
     ghost use Rattle.dl_coarse.specs.Turn.{IsTurn};
-    ghost use Rattle.dl_coarse.specs.Sights.{blank};
+    ghost use Rattle.dl_coarse.specs.Openings.{first_sight};
 
-    ghost holds = { λ key. IsTurn M.plan M.core (M.plan key) };
+    ghost holds = { λ key. IsTurn M.runs M.state (M.opening key) };
 
-    ghost first = { λ key. blank };
+    ghost first = { λ key. first_sight (M.opening key) (M.state key) };
 }

@@ -1,16 +1,18 @@
-// What passes do, but for the start and the end.
-ghost use Rattle.std.specs.Prelude.{◌≡◌, ◌≤◌, ◌++◌, take, true, [], length, vec_capacity};
-ghost use Rattle.dl_core.specs.Advances.{Progresses};
-ghost use Rattle.dl_core.specs.Passes.{OneTurn, MayTake, begun_by, told_by, learnt_by};
-ghost use Rattle.dl_coarse.specs.Passes.{IsOf, IsNote, plan_in, view_of, told_of};
+// The table with one turn is a ground.
+ghost use Rattle.std.specs.Prelude.{◌≡◌, ◌≤◌, length, map, vec_capacity};
+ghost use Rattle.dl_core.specs.Closing.{AreIdle, EndsOn};
 
+use crate::closings::close_all;
 use crate::machines::Machine;
+use crate::openings::open;
 use crate::passes::{Coarse, Note, Pass};
 use crate::rule::Hold;
 use crate::turns::take_turn;
 use atomic_table::{Join, Split};
-use dl_core::{Lock, Progress};
-use dl_ir::Call;
+use dl_core::{Ground, Lock, Progress};
+use dl_instr::Code;
+use dl_ir::{Call, Closed, Heap};
+use std::alloc::{AllocError, Global};
 
 pub(crate) struct Notes;
 
@@ -42,23 +44,54 @@ fn refill(args: &mut Vec<i64>, given: &[i64])
     }
 }
 
-impl<M: Machine> Coarse<M> {
-    pub fn begin(&self, pass: &mut Pass<M>, call: &Call)
-        requires of { IsOf M.plan self.now pass.old }
-        requires may { MayTake (plan_in M.plan self.now) (view_of pass.old) call.now }
-        ensures of { IsOf M.plan self.now pass.new }
-        ensures view { view_of pass.new ≡ begun_by call.now (view_of pass.old) }
-    {
+impl<M: Machine + Send> Ground for Coarse<M> {
+    ghost use Rattle.dl_core.specs.Passes.{OneTurn};
+    ghost use Rattle.dl_coarse.specs.Passes.{IsOf, IsNote, plan_in, view_of, told_of};
+
+    type Pass = Pass<M>;
+
+    type Note = Note<M>;
+
+    ghost manner = { OneTurn };
+
+    ghost plan = { plan_in M.opening };
+
+    ghost is_of = { IsOf M.opening };
+
+    ghost view = { view_of };
+
+    ghost is_note = { IsNote M.opening };
+
+    ghost told = { told_of };
+
+    fn start(
+        alloc: Global,
+        code: Code,
+        places: u32,
+        sizes: &[u32],
+    ) -> Result<(Self, Vec<Self::Pass>), AllocError> {
+        let machine = M::start(alloc, code, places, sizes)?;
+        open(alloc, machine, sizes.len())
+    }
+
+    fn over(
+        alloc: Global,
+        code: Code,
+        heap: &Heap,
+        places: u32,
+        sizes: &[u32],
+    ) -> Result<(Self, Vec<Self::Pass>), AllocError> {
+        let machine = M::over(alloc, code, heap, places, sizes)?;
+        open(alloc, machine, sizes.len())
+    }
+
+    fn begin(&self, pass: &mut Self::Pass, call: &Call) {
         refill(&mut pass.args, call.args.as_slice());
         pass.op = call.op;
         pass.busy = true;
     }
 
-    pub fn advance(&self, pass: &mut Pass<M>) -> Progress
-        requires of { IsOf M.plan self.now pass.old }
-        ensures of { IsOf M.plan self.now pass.new }
-        ensures view { Progresses OneTurn (plan_in M.plan self.now) (view_of pass.old) result (view_of pass.new) }
-    {
+    fn advance(&self, pass: &mut Self::Pass) -> Progress {
         if !pass.busy {
             return Progress::Idle;
         }
@@ -83,20 +116,15 @@ impl<M: Machine> Coarse<M> {
         }
     }
 
-    pub fn front(&self, pass: &Pass<M>) -> u64
-        requires of { IsOf M.plan self.now pass.now }
-        ensures { result ≡ (view_of pass.now).front }
-    {
+    fn caller(&self, pass: &Self::Pass) -> u32 {
+        pass.number
+    }
+
+    fn front(&self, pass: &Self::Pass) -> u64 {
         pass.front
     }
 
-    pub fn note(&self, pass: &mut Pass<M>) -> Note<M>
-        requires of { IsOf M.plan self.now pass.old }
-        ensures of { IsOf M.plan self.now pass.new }
-        ensures view { view_of pass.new ≡ view_of pass.old }
-        ensures note { IsNote M.plan self.now result }
-        ensures told { told_of result ≡ told_by (view_of pass.old) }
-    {
+    fn note(&self, pass: &mut Self::Pass) -> Self::Note {
         let seat = self.table.shared.split_seat::<Notes>(&mut pass.seat);
         Note {
             seat,
@@ -104,14 +132,16 @@ impl<M: Machine> Coarse<M> {
         }
     }
 
-    pub fn learn(&self, pass: &mut Pass<M>, note: Note<M>)
-        requires of { IsOf M.plan self.now pass.old }
-        requires note { IsNote M.plan self.now note }
-        ensures of { IsOf M.plan self.now pass.new }
-        ensures view { view_of pass.new ≡ learnt_by (told_of note) (view_of pass.old) }
-    {
+    fn learn(&self, pass: &mut Self::Pass, note: Self::Note) {
         let Note { seat, front } = note;
         self.table.shared.join_seat::<Notes>(&mut pass.seat, seat);
         pass.front = pass.front.max(front);
+    }
+
+    fn close(self, passes: Vec<Self::Pass>) -> Closed
+        requires idle { AreIdle (plan_in M.opening self) (IsOf M.opening self) view_of passes.items }
+        ensures { EndsOn (plan_in M.opening self) (map view_of passes.items) result }
+    {
+        close_all(self, passes)
     }
 }

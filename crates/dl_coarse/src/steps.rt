@@ -36,7 +36,7 @@ struct Grabs<M, N> {
 impl<M: Machine, N: Planned> Play<Option<M>, Hold> for Grabs<M, N> {
     ghost use Rattle.dl_coarse.specs.Turn.{grabs};
 
-    ghost then = { grabs M.plan M.core N.plan };
+    ghost then = { grabs M.runs M.state N.plan };
 }
 
 struct Clocks;
@@ -92,12 +92,12 @@ fn grab_at<M: Machine, N: Planned>(
     number: u64,
 ) -> Result<M, u64>
     requires table { (seat.old.table_id ≡ table.now.table_id) × (table.now.table_id.words ≡ 3) }
-    requires plan { N.plan ≡ Some (M.plan table.now.key) }
+    requires plan { N.plan ≡ Some (M.opening table.now.key) }
     requires one { (seat.old.me.0.owns ≡ own_of seat.old.me.0 ∷ []) × ((own_of seat.old.me.0).number ≡ number) × (0 < number) }
     requires out { (seat.old.me.0.turn ≡ None) × (seat.old.me.1 ≡ []) }
     ensures seat { (seat.new.table_id ≡ seat.old.table_id) × (seat.new.id ≡ seat.old.id) }
-    ensures ok { IfOk result (λ machine. Got M.plan M.core (M.plan table.now.key) seat.old.me.0 machine × (seat.new.me ≡ after_got M.plan M.core machine None seat.old.me)) }
-    ensures err { IfErr result (λ found. Missed M.plan M.core (M.plan table.now.key) seat.old.me.0 found × (seat.new.me ≡ (glanced (Compared 0 found) seat.old.me.0, []))) }
+    ensures ok { IfOk result (λ machine. Got M.runs M.state (M.opening table.now.key) seat.old.me.0 machine × (seat.new.me ≡ after_got M.runs M.state machine None seat.old.me)) }
+    ensures err { IfErr result (λ found. Missed M.runs M.state (M.opening table.now.key) seat.old.me.0 found × (seat.new.me ≡ (glanced (Compared 0 found) seat.old.me.0, []))) }
 {
     let found = table.compare_exchange::<Grabs<M, N>>(seat, 0, 0, number);
     if found != 0 {
@@ -119,8 +119,8 @@ pub(crate) fn grab<M: Machine>(
     requires one { (seat.old.me.0.owns ≡ own_of seat.old.me.0 ∷ []) × ((own_of seat.old.me.0).number ≡ number) × (0 < number) }
     requires out { (seat.old.me.0.turn ≡ None) × (seat.old.me.1 ≡ []) }
     ensures seat { (seat.new.table_id ≡ seat.old.table_id) × (seat.new.id ≡ seat.old.id) }
-    ensures ok { IfOk result (λ machine. Got M.plan M.core (M.plan table.now.key) seat.old.me.0 machine × (seat.new.me ≡ after_got M.plan M.core machine None seat.old.me)) }
-    ensures err { IfErr result (λ found. Missed M.plan M.core (M.plan table.now.key) seat.old.me.0 found × (seat.new.me ≡ (glanced (Compared 0 found) seat.old.me.0, []))) }
+    ensures ok { IfOk result (λ machine. Got M.runs M.state (M.opening table.now.key) seat.old.me.0 machine × (seat.new.me ≡ after_got M.runs M.state machine None seat.old.me)) }
+    ensures err { IfErr result (λ found. Missed M.runs M.state (M.opening table.now.key) seat.old.me.0 found × (seat.new.me ≡ (glanced (Compared 0 found) seat.old.me.0, []))) }
 {
     grab_at::<M, Brand>(table, seat, number)
 }
@@ -172,9 +172,9 @@ fn give_at<M: Machine, N: Settled>(
     answer: &Progress,
 )
     requires table { (seat.old.table_id ≡ table.now.table_id) × (table.now.table_id.words ≡ 3) × (table.now.table_id.slots ≡ 1) }
-    requires may { MayGive M.plan M.core (M.plan table.now.key) seat.old.me.0 machine (call_of op args.now) answer.now }
+    requires may { MayGive M.runs M.state (M.opening table.now.key) seat.old.me.0 machine (call_of op args.now) answer.now }
     requires slot { seat.old.me.1 ≡ (0, None) ∷ [] }
-    requires named { N.sight ≡ sight_after (M.core machine) (call_of op args.now) answer.now seat.old.me.0 }
+    requires named { N.sight ≡ sight_after (M.state machine) (call_of op args.now) answer.now seat.old.me.0 }
     ensures seat { (seat.new.table_id ≡ seat.old.table_id) × (seat.new.id ≡ seat.old.id) }
     ensures sight_after { seat.new.me ≡ (N.sight, []) }
 {
@@ -195,10 +195,10 @@ pub(crate) fn give<M: Machine>(
     answer: &Progress,
 )
     requires table { (seat.old.table_id ≡ table.now.table_id) × (table.now.table_id.words ≡ 3) × (table.now.table_id.slots ≡ 1) }
-    requires may { MayGive M.plan M.core (M.plan table.now.key) seat.old.me.0 machine (call_of op args.now) answer.now }
+    requires may { MayGive M.runs M.state (M.opening table.now.key) seat.old.me.0 machine (call_of op args.now) answer.now }
     requires slot { seat.old.me.1 ≡ (0, None) ∷ [] }
     ensures seat { (seat.new.table_id ≡ seat.old.table_id) × (seat.new.id ≡ seat.old.id) }
-    ensures sight_after { seat.new.me ≡ (sight_after (M.core machine) (call_of op args.now) answer.now seat.old.me.0, []) }
+    ensures sight_after { seat.new.me ≡ (sight_after (M.state machine) (call_of op args.now) answer.now seat.old.me.0, []) }
 {
     give_at::<M, Brand>(table, seat, machine, op, args, answer)
 }

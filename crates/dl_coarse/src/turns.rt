@@ -44,9 +44,9 @@ fn mark<M: Machine>(
     answer: &Progress,
 )
     requires table { (seat.old.table_id ≡ table.now.table_id) × (table.now.table_id.words ≡ 3) }
-    requires may { MayMark seat.old.me.0 old answer.now (M.core machine.now) }
+    requires may { MayMark seat.old.me.0 old answer.now (M.state machine.now) }
     ensures seat { (seat.new.table_id ≡ seat.old.table_id) × (seat.new.id ≡ seat.old.id) }
-    ensures marked { IsMarked (M.core machine.now).clock (M.core machine.now).pool.version seat.old.me seat.new.me }
+    ensures marked { IsMarked (M.state machine.now).clock (M.state machine.now).pool.version seat.old.me seat.new.me }
     ensures look { LookBy answer.now old seat.old.me.0.look seat.new.me.0.look }
 {
     match answer {
@@ -70,17 +70,17 @@ pub(crate) fn take_turn<M: Machine>(
     requires table { (seat.old.table_id ≡ table.now.table_id) × (table.now.table_id.words ≡ 3) × (table.now.table_id.slots ≡ 1) }
     requires resting { IsResting seat.old.me.0 × (seat.old.me.1 ≡ []) }
     requires number { ((own_of seat.old.me.0).number ≡ number) × (0 < number) }
-    requires room { length (own_of seat.old.me.0).calls < size_of (M.plan table.now.key) number }
-    requires fits { IsCallOf (source_of (M.plan table.now.key)) (call_of op args.now) }
+    requires room { length (own_of seat.old.me.0).calls < size_of (M.opening table.now.key) number }
+    requires fits { IsCallOf (source_of (M.opening table.now.key)) (call_of op args.now) }
     ensures seat { (seat.new.table_id ≡ seat.old.table_id) × (seat.new.id ≡ seat.old.id) }
     ensures resting { IsResting seat.new.me.0 × (seat.new.me.1 ≡ []) × ((own_of seat.new.me.0).number ≡ number) }
-    ensures ok { IfOk result (λ answer. Progresses OneTurn (M.plan table.now.key) (view_with (Some (call_of op args.now)) seat.old.me.0) answer (view_with None seat.new.me.0)) }
-    ensures err { IfErr result (λ by. WaitsStill OneTurn (M.plan table.now.key) (view_with (Some (call_of op args.now)) seat.old.me.0) locks.Turn by (view_with (Some (call_of op args.now)) seat.new.me.0)) }
+    ensures ok { IfOk result (λ answer. Progresses OneTurn (M.opening table.now.key) (view_with (Some (call_of op args.now)) seat.old.me.0) answer (view_with None seat.new.me.0)) }
+    ensures err { IfErr result (λ by. WaitsStill OneTurn (M.opening table.now.key) (view_with (Some (call_of op args.now)) seat.old.me.0) locks.Turn by (view_with (Some (call_of op args.now)) seat.new.me.0)) }
 {
-    let mut machine = grab(table, seat, u64::from(number))?;
+    let machine = grab(table, seat, u64::from(number))?;
     let old = machine.version();
-    let answer = machine.run(number, op, args);
-    mark(table, seat, &machine, old, &answer);
-    give(table, seat, machine, op, args, &answer);
+    let (left, answer) = machine.run(number, op, args);
+    mark(table, seat, &left, old, &answer);
+    give(table, seat, left, op, args, &answer);
     Ok(answer)
 }

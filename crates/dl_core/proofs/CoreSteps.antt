@@ -19,7 +19,7 @@ use Rattle.dl_core.specs.Plans.{Plan}
 use Rattle.dl_core.specs.Shared.{Touched, touched, touched_by}
 
 -- the step, or why there is none
-abbrev done_or : Core → Option Name → Option Stepped → Stepped
+abbrev pub done_or : Core → Option Name → Option Stepped → Stepped
 done_or core at None = (core, stands core.world.heap at)
 done_or core at (Some done) = done
 
@@ -42,7 +42,7 @@ module _ (plan : Plan) (core : Core) (caller : ℕ) where
   no_name e = cc
 
   -- an event at an object
-  touching : (frame : Frame) (d : Due) (name : Name) → aim d ≡ Some name → step_due plan core caller frame d ≡ touches plan core caller frame d name
+  pub touching : (frame : Frame) (d : Due) (name : Name) → aim d ≡ Some name → step_due plan core caller frame d ≡ touches plan core caller frame d name
   touching frame Nothing name at = absurd (no_name at)
   touching frame (Reserves need) name at = absurd (no_name at)
   touching frame (TakesRoot number) name at = ap (touches plan core caller frame (TakesRoot number)) (same_name at)

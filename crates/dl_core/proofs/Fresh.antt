@@ -67,13 +67,13 @@ module _ (plan : Plan) (is : IsPlan plan) where
   fresh_refs name = sym (plain_refs (marked plan.heap) name) ∙ ap (λ h. references.refs h name) (plain_marked plan.heap)
 
   pub fresh_heap : IsHeapOf (source_of plan) (plain (marked plan.heap))
-  fresh_heap = subst (IsHeapOf (source_of plan)) (sym (plain_marked plan.heap)) is.start.of_module
+  fresh_heap = subst (IsHeapOf (source_of plan)) (sym (plain_marked plan.heap)) is.start.startable.of_module
 
   fresh_counted : IsCounted (marked plan.heap)
   fresh_counted = record {
     one = λ name object there free hidden.
         let o = from_start name object there in
-        fresh_refs name ∙ is.start.one_field name o.0 o.1 hidden (unsealed o.0.sealed (sym (ap (λ (x : Object). x.mark) o.2) ∙ free));
+        fresh_refs name ∙ is.start.startable.settled name o.0 o.1 hidden (unsealed o.0.sealed (sym (ap (λ (x : Object). x.mark) o.2) ∙ free));
     roots = λ name z. no_root_refs (source_of plan) (marked plan.heap) fresh_heap name z;
   }
     where

@@ -110,7 +110,7 @@ module _ (plan : Plan) (is : IsPlan plan) where
       hidden : (n : Name) (o : Obj) → finite.get plan.heap n ≡ Some o → o.sealed ≡ true → (t : ℕ) → n.ticket ≡ t → IsHidden n
       hidden n o e s (suc t) z = omega (arith, z)
       hidden n o e s zero z =
-          let root = is.start.of_module.roots o.kind n (is.start.of_module.exposed n o e z) in
+          let root = is.start.startable.of_module.roots o.kind n (is.start.startable.of_module.exposed n o e z) in
           let clash : true ≡ false = sym s ∙ ap (λ (x : Obj). x.sealed) (same_some (sym e ∙ root.1)) ∙ root.3 in
           absurd (cc)
 

@@ -58,7 +58,7 @@ module _ (plan : Plan) (core : Core) (calls : Calls) (is : IsPlan plan) (all : I
       let each : All (λ (frame : Frame). length frame.finished + one_if_entered frame ≤ 65537) core.world.frames =
       λ k d less. subst (λ (f : Frame). length f.finished + one_if_entered f ≤ 65537) (same_at k d less) (omega (arith, finished_few k, one_entered (frame_of core.world k))) in
       let sum = sum_by-le (λ (frame : Frame). length frame.finished + one_if_entered frame) 65537 core.world.frames each in
-      omega (arith, all.lawful.totals.clock, is.low_tickets, sum, frames_few)
+      omega (arith, all.lawful.totals.clock, is.start.startable.low_tickets, sum, frames_few)
 
   -- nor does the version
   pub version_fits : core.pool.version + 1 < 2 ^ 64

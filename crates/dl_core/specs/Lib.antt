@@ -26,3 +26,6 @@ pub mod Advances
 pub mod Closing
 pub mod Stored
 pub mod Turns
+pub mod Causes
+pub mod Machines
+pub mod Machinery

@@ -1,8 +1,7 @@
 -- What a run never changes.
-use Rattle.std.specs.Prelude.{◌≡◌, ◌+◌, ◌<◌, ◌≤◌, ◌==◌, ℕ, zero, suc, ℤ, Option, Some, None, List, [], ◌∷◌, length, slice_get, get_or, drop, false, nat_lt, All, if◌then◌else◌}
+use Rattle.std.specs.Prelude.{◌+◌, ◌<◌, ◌≤◌, ◌==◌, ℕ, zero, suc, ℤ, Option, Some, None, List, [], ◌∷◌, length, slice_get, get_or, drop, nat_lt, All, if◌then◌else◌}
 use Rattle.std.specs.List.{zip}
 use Rattle.std.specs.Option.{option_map_or}
-use Rattle.std.specs.FinMap as finite
 use Rattle.dl_ir.specs.declared.calls.Call.{Call}
 use Rattle.dl_ir.specs.declared.modules.FieldDecl.{FieldDecl}
 use Rattle.dl_ir.specs.declared.modules.KindDecl.{KindDecl}
@@ -11,14 +10,11 @@ use Rattle.dl_ir.specs.declared.modules.Module.{Module}
 use Rattle.dl_ir.specs.declared.modules.OpDecl.{OpDecl}
 use Rattle.dl_ir.specs.declared.modules.Ty.{Ty}
 use Rattle.dl_ir.specs.declared.modules.Ty.TheVariants.{Int, Of}
-use Rattle.dl_ir.specs.declared.names.Name.{Name}
 use Rattle.dl_ir.specs.declared.names.Value.{Value}
-use Rattle.dl_ir.specs.declared.objects.Obj.{Obj}
 use Rattle.dl_ir.specs.Checked.{IsChecked}
-use Rattle.dl_ir.specs.Heap.{Objects, IsHeapOf, IsHidden, hidden_count}
-use Rattle.dl_ir.specs.References.{refs}
+use Rattle.dl_ir.specs.Heap.{Objects, hidden_count}
 use Rattle.dl_shape.specs.Operation.{first_locals, root_number}
-use Rattle.dl_shape.specs.Replay.{greatest_ticket}
+use Rattle.dl_shape.specs.Startable.{IsStartable}
 use Rattle.dl_instr.specs.declared.code.Code.{Code}
 use Rattle.dl_instr.specs.declared.steps.Step.{Step}
 use Rattle.dl_instr.specs.Drops.{IsCodeOf}
@@ -102,11 +98,9 @@ first_reference at (field ∷ rest) = or_later field.ty at (first_reference (at 
 abbrev pub reference_from : Plan → ℕ → ℕ → Option ℕ
 reference_from plan kind from = first_reference from (drop from (fields_of plan kind))
 
--- a run may start from the heap: it is one of the module, each unsealed hidden object has one field that refers to it, and
--- there is a place for each hidden object
+-- a run may start from the heap, and there is a place for each hidden object
 pub record MayStartFrom (plan : Plan) : Type 0 where
-  pub of_module : IsHeapOf (source_of plan) plan.heap
-  pub one_field : (name : Name) (object : Obj) → finite.get plan.heap name ≡ Some object → IsHidden name → object.sealed ≡ false → refs plan.heap name ≡ 1
+  pub startable : IsStartable (source_of plan) plan.heap
   pub room : hidden_count plan.heap ≤ plan.places
 
 -- what holds of every plan: its module is checked, its code is a code of that module, a run may start from its heap, and the
@@ -119,4 +113,3 @@ pub record IsPlan (plan : Plan) : Type 0 where
   pub few_callers : length plan.sizes ≤ 64
   pub few_calls : All (λ size. size ≤ 65536) plan.sizes
   pub few_places : plan.places ≤ 65536
-  pub low_tickets : greatest_ticket plan.heap ≤ 4611686018427387904

@@ -13,6 +13,7 @@ ghost use Rattle.dl_core.specs.Events.{begun as begins, entered as enters};
 ghost use Rattle.dl_core.specs.Frames.{at_rest};
 ghost use Rattle.dl_core.specs.Plans.{Plan, locals_of, fuel_of};
 ghost use Rattle.dl_core.specs.Shown.{shown, memory_of, rooms_of, CanGoOn, HasTurns};
+ghost use Rattle.dl_core.specs.Turns.{call_of};
 
 use crate::frames::Frame;
 use crate::lists::Row;
@@ -20,7 +21,7 @@ use crate::ready::make_ready;
 use crate::roots::put_roots;
 use crate::stages::Stage;
 use dl_instr::Code;
-use dl_ir::{Call, LocalDecl, Name, OpDecl, Ty, Value};
+use dl_ir::{LocalDecl, Name, OpDecl, Ty, Value};
 
 // The declaration of an operation, if there is one.
 fn op_of(code: &Code, op: u32) -> Option<&OpDecl>
@@ -30,27 +31,27 @@ fn op_of(code: &Code, op: u32) -> Option<&OpDecl>
 }
 
 /// A call is in hand.
-pub fn begun(code: &Code, call: &Call, frame: &mut Frame)
+pub fn begun(code: &Code, number: u32, args: &[i64], frame: &mut Frame)
     requires idle { shown frame.old ≡ at_rest frame.old.index (shown frame.old).finished }
     requires can { CanGoOn code.now frame.old }
     requires turns { HasTurns code.now }
-    requires held { HoldsCall code.now call.now }
+    requires held { HoldsCall code.now (call_of number args.now) }
     requires index { frame.old.index + 1 < 2 ^ 32 }
-    requires args { length call.now.args ≤ frame.old.args.room }
-    requires roots { length call.now.args ≤ frame.old.roots.room }
+    requires args_fit { length args.now ≤ frame.old.args.room }
+    requires roots { length args.now ≤ frame.old.roots.room }
     ensures can { CanGoOn code.now frame.new }
-    ensures shown { shown frame.new ≡ begins call.now (shown frame.old) }
+    ensures shown { shown frame.new ≡ begins (call_of number args.now) (shown frame.old) }
     ensures account { shown_account frame.new ≡ shown_account frame.old }
     ensures entries { frame.new.entries ≡ frame.old.entries }
     ensures memory { memory_of frame.new ≡ memory_of frame.old }
 {
     frame.index += 1;
     frame.stage = Stage::Called;
-    frame.op = call.op;
-    frame.args.refill(call.args.as_slice());
+    frame.op = number;
+    frame.args.refill(args);
     frame.roots.clear();
-    if let Some(op) = op_of(code, call.op) {
-        put_roots(op.params.as_slice(), call.args.as_slice(), &mut frame.roots);
+    if let Some(op) = op_of(code, number) {
+        put_roots(op.params.as_slice(), args, &mut frame.roots);
     }
 }
 

@@ -12,4 +12,5 @@ mod reports;
 
 pub use histories::History;
 pub use merging::{MergeRoom, gather, merge};
+pub use operations::call_of;
 pub use reports::write_report;

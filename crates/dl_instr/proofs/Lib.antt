@@ -1,15 +1,15 @@
 -- The lemmas of this crate.
 mod Checked
-mod CodesOf
+pub mod CodesOf
 mod Late
 mod Latest
 mod Matched
-mod Moved
+pub mod Moved
 mod Paths
-mod PlainJumps
+pub mod PlainJumps
 pub mod PlainSteps
 mod Refuted
-mod Rising
+pub mod Rising
 mod SameLists
 pub mod Operands
 pub mod Patches

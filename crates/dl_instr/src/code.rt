@@ -28,4 +28,14 @@ impl Code {
     {
         self.ops.get(op)
     }
+
+    /// The code with other steps, of the same module. Whether they are a code of that module is for the caller to know.
+    pub fn with_ops(self, ops: Items<Steps>) -> Code
+        ensures { result ≡ record { source = self.source; ops = ops } }
+    {
+        Code {
+            source: self.source,
+            ops,
+        }
+    }
 }

@@ -5,8 +5,6 @@
 mod code;
 mod conditions;
 mod copies;
-#[cfg(test)]
-mod drop_tests;
 mod drops;
 mod expressions;
 mod generator;
@@ -18,15 +16,13 @@ mod names;
 mod plain;
 mod same;
 mod steps;
-#[cfg(test)]
-mod test_modules;
-#[cfg(test)]
-mod tests;
 
 pub use code::Code;
+pub use copies::{copy_cond, copy_expr};
 pub use drops::codes_of_modules;
 pub use generator::instrument;
 pub use laws::jumps_land;
 pub use listing::print_code;
+pub use liveness::{is_reference, is_use, reads, sets};
 pub use matching::is_code_of;
 pub use steps::{Content, Origin, Step, Steps};

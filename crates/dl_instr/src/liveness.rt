@@ -23,8 +23,8 @@ fn is_side(local: u32, side: RefSide) -> bool
     }
 }
 
-// Whether a step reads the reference that a local holds.
-fn reads(local: u32, step: &Step) -> bool
+/// Whether a step reads the reference that a local holds.
+pub fn reads(local: u32, step: &Step) -> bool
     ensures { result ≡ reads local step.now }
 {
     match step {
@@ -56,8 +56,8 @@ fn reads(local: u32, step: &Step) -> bool
     }
 }
 
-// Whether a step sets a local, or drops it.
-fn sets(local: u32, step: &Step) -> bool
+/// Whether a step sets a local, or drops it.
+pub fn sets(local: u32, step: &Step) -> bool
     ensures { result ≡ sets local step.now }
 {
     match step {
@@ -75,8 +75,8 @@ fn sets(local: u32, step: &Step) -> bool
     }
 }
 
-// Whether a step uses what the hand holds.
-pub(crate) fn is_use(step: &Step) -> bool
+/// Whether a step uses what the hand holds.
+pub fn is_use(step: &Step) -> bool
     ensures { result ≡ is_use step.now }
 {
     match step {
@@ -106,8 +106,8 @@ fn is_kind(ty: Ty) -> bool
     }
 }
 
-// Whether a local is declared and holds references.
-pub(crate) fn is_reference(op: &OpDecl, local: u32) -> bool
+/// Whether a local is declared and holds references.
+pub fn is_reference(op: &OpDecl, local: u32) -> bool
     ensures { result ≡ is_reference (slice_get (op.now.params ++ op.now.vars) local) }
 {
     let local = local as usize;

@@ -341,7 +341,7 @@ fn is_matched(op: &OpDecl, count: usize, steps: &[Step]) -> bool
 }
 
 /// Whether a code is one of a module: its plain code, or that code with steps added that drop references not used again. Takes no
-/// memory; the time grows with about the fourth power of the length of the longest operation.
+/// memory; the time grows with about the fourth power of the length of the longest operation, so it is for tests on short operations.
 pub fn is_code_of(source: &Module, code: &Code) -> bool
     ensures { IsTrue result ↔ IsCodeOf source.now code.now }
 {

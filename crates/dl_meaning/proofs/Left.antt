@@ -109,5 +109,5 @@ pub below_next : (h : Objects) → HasTicketsBelow (greatest_ticket h + 1) h
 below_next h q p is = let most = at_most 0 (finite.entries h) (q, p) (in_entries h q p is) in omega (arith, most)
 
 pub legal_replays_leave_heaps : LegalReplaysLeaveHeaps
-legal_replays_leave_heaps source files h history checked all heap legal =
-    replays_leave_heaps source files (greatest_ticket h + 1) h history checked all heap (below_next h) (rises_from legal)
+legal_replays_leave_heaps source files h history checked all legal =
+    replays_leave_heaps source files (greatest_ticket h + 1) h history checked all legal.startable.of_module (below_next h) (rises_from legal.goes)

@@ -50,7 +50,7 @@ abbrev pub ReplaysLeaveHeaps : Type 0
 ReplaysLeaveHeaps = (source : Module) (files : List (List Call)) (ticket : ℕ) (h : Objects) (history : List Entry) → IsChecked source → AreFilesOf source files
     → IsHeapOf source h → HasTicketsBelow ticket h → RisesFrom ticket history → IsHeapOf source (replayed source files h history)
 
--- and so does that of a legal history, whatever the heap of the module is from which it goes
+-- and so does that of a legal history
 abbrev pub LegalReplaysLeaveHeaps : Type 0
 LegalReplaysLeaveHeaps = (source : Module) (files : List (List Call)) (h : Objects) (history : List Entry) → IsChecked source → AreFilesOf source files
-    → IsHeapOf source h → IsLegal source files h history → IsHeapOf source (replayed source files h history)
+    → IsLegal source files h history → IsHeapOf source (replayed source files h history)

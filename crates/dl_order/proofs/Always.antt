@@ -162,6 +162,6 @@ serial_always plan core calls is reached =
       others = λ caller none_now. turn_frame (rules_of plan) serial.callers core.world serial.end serial.runs caller (none_entered core.world caller serial.callers none_now serial.row.entered);
       all = serial.replay.clock_is;
       heap = serial.replay.heap_is;
-      legal = serial.replay.legal;
+      legal = record { startable = is.start.startable; goes = serial.replay.legal };
       returns = serial.replay.returns;
     }

@@ -27,6 +27,7 @@ use Rattle.dl_shape.specs.Closed.{IsForestClosed}
 use Rattle.dl_shape.specs.Pool.{ReturnsFit, IsLawfulPool, HasVersionsOfMovesAlone, IsDue, allocs_at, moves_of, moves_of_entry, versions_of, free_at}
 use Rattle.dl_shape.specs.Replay.{after_call, replayed, IsLegal, IsLegalFrom}
 use Rattle.dl_shape.specs.Rising.{in_rising}
+use Rattle.dl_shape.specs.Startable.{IsSettled}
 use Rattle.dl_shape.proofs.Rising.{rising_moves, rising_pieces}
 use Rattle.dl_core.specs.declared.objects.Mark.{Mark}
 use Rattle.dl_core.specs.declared.objects.Mark.TheVariants as marks
@@ -44,7 +45,8 @@ use Rattle.dl_core.specs.Sound.{IsSound, callers_of, numbers_from, moves_in, mov
 use Rattle.dl_core.proofs.Names.{same_number, same_some, no_some}
 use Rattle.dl_core.proofs.Plain.{get_plain, plain_refs}
 use Rattle.dl_core.proofs.LawfulAlways.{lawful_always}
-use Rattle.dl_order.specs.Ends.{AreAllIdle, history_in, all_refusals, IsRunOver, RunsEnd}
+use Rattle.dl_order.specs.Ends.{history_in, all_refusals, IsRunOver, RunsEnd}
+use Rattle.dl_core.specs.Machines.{AreAllIdle}
 use Rattle.dl_order.proofs.Always.{serial_on}
 use Rattle.dl_order.proofs.Histories.{told, same_pieces}
 use Rattle.dl_core.proofs.Elements.{Each, In, Up, each_in, each_map, each_of, each_all, all_each, in_contains, contains_in, pairs_up, up_pairs}
@@ -223,10 +225,10 @@ module _ (plan : Plan) (is : IsPlan plan) (core : Core) (calls : Calls) (reached
       subst (λ (w : Shared). IsReplayOf plan calls core.clock (plain w.heap) (history_of w)) (nobody_runs serial.callers serial.end serial.row.entered serial.runs) serial.replay
 
   legal : IsLegal source calls plan.heap (history_in plan core)
-  legal = legal_bare source calls replay.legal (history_in plan core) (sym history_told)
+  legal = record { startable = is.start.startable; goes = legal_bare source calls replay.legal (history_in plan core) (sym history_told) }
 
   rising : Up ticket (history_in plan core)
-  rising = (legal_up source calls legal).0
+  rising = (legal_up source calls legal.goes).0
 
   heap_is : plain core.world.heap ≡ replayed source calls plan.heap (history_in plan core)
   heap_is = replay.heap_is ∙ ap (replayed source calls plan.heap) (sym history_told) ∙ replay_bare source calls plan.heap (history_in plan core)
@@ -423,8 +425,8 @@ module _ (plan : Plan) (is : IsPlan plan) (core : Core) (calls : Calls) (reached
       let spares = no_spares core.world.frames (λ c. ap (λ (f : Frame). f.spares) (rests c)) in
       omega (arith, (lawful_always plan core calls is reached).lawful.totals.places, spares)
 
-  one_field : (name : Name) (object : Obj) → finite.get (plain core.world.heap) name ≡ Some object → IsHidden name → object.sealed ≡ false → references.refs (plain core.world.heap) name ≡ 1
-  one_field name object there hidden unsealed = plain_refs core.world.heap name ∙ by (finite.get core.world.heap name) refl (sym (get_plain core.world.heap name) ∙ there)
+  settled : IsSettled (plain core.world.heap)
+  settled name object there hidden unsealed = plain_refs core.world.heap name ∙ by (finite.get core.world.heap name) refl (sym (get_plain core.world.heap name) ∙ there)
     where
       no_seal : true ≡ false → ⊥
       no_seal e = cc
@@ -462,7 +464,7 @@ module _ (plan : Plan) (is : IsPlan plan) (core : Core) (calls : Calls) (reached
   unsealed closed = never_seals source calls plan.heap (history_in plan core) all_of_module closed legal
 
   is_run : IsRunOver plan core calls
-  is_run = record { covers = covers; legal = legal; pool = pool; versions = versions; unsealed = unsealed; refusals = refusals_stand; heap = heap_is; free = free; again = record { of_module = sound.heap; one_field = one_field; room = omega (arith, free) } }
+  is_run = record { covers = covers; legal = legal; pool = pool; versions = versions; unsealed = unsealed; refusals = refusals_stand; heap = heap_is; free = free; left = (sound.heap, settled) }
 
 pub runs_end : RunsEnd
 runs_end plan core calls is reached resting = is_run plan is core calls reached resting

@@ -42,7 +42,7 @@ use Rattle.dl_core.proofs.Why as why
 use Rattle.dl_core.proofs.Why.{Why, IsGivenUp}
 use Rattle.dl_order.specs.Found.{IsThere, IsNamedBy, in_the_book, by_a_local, by_the_hand, in_the_list, AllIsThere, HoldersAreCallers, EmptyObjectsComeAndGo}
 use Rattle.dl_core.proofs.Elements.{In, each_in, all_each, contains_in}
-use Rattle.dl_order.proofs.Progress.{root_of_call}
+use Rattle.dl_core.proofs.CalledRoots.{root_of_call}
 
 either : (a b : Bool) → (a || b) ≡ false → a ≡ false
 either true b e = e

@@ -1,5 +1,4 @@
 pub mod Runs
-pub mod Acting
 pub mod Keeping
 pub mod Worlds
 pub mod Histories
@@ -17,6 +16,7 @@ pub mod Ends
 pub mod Progress
 pub mod Falls
 pub mod Ending
+pub mod OneCaller
 pub mod Closes
 pub mod Found
 pub mod Given

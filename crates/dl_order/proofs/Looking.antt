@@ -18,7 +18,7 @@ use Rattle.dl_ir.specs.declared.names.Value.TheVariants as values
 use Rattle.dl_ir.specs.declared.objects.Obj.{Obj}
 use Rattle.dl_ir.specs.CallForms.{IsCallOf, AllFit, IsRootNumber}
 use Rattle.dl_ir.specs.Checked.{IsChecked, IsOperation, HasRoot, IsParamType, IsVarType}
-use Rattle.dl_ir.specs.Heap.{name_cmp, root, IsHeapOf, IsRootOf, HasFields, HasType, hidden_count}
+use Rattle.dl_ir.specs.Heap.{IsHidden, name_cmp, root, IsHeapOf, IsRootOf, HasFields, HasType, hidden_count}
 use Rattle.dl_ir.specs.References.{refs, refers_to, is_loose, is_shared}
 use Rattle.dl_ir.specs.Typed as typed
 use Rattle.dl_ir.specs.Typed.{HasFieldOf}
@@ -163,17 +163,23 @@ is_plan plain = record {
   checked = checked;
   code = plain look_module;
   start = record {
-    of_module = of_module;
-    one_field = λ name found there hid unsealed. absurd (let same = is_root name found there in omega (arith, hid, ap (λ (n : Name). n.ticket) same.0));
+    startable = record {
+      of_module = of_module;
+      settled = λ name found there hid unsealed. absurd (not_hidden name found there hid);
+      low_tickets = omega (arith, first_ticket);
+      low_indexes = λ name found there hid. absurd (not_hidden name found there hid);
+    };
     room = omega (arith, nothing_hidden);
   };
   some_callers = omega arith;
   few_callers = omega arith;
   few_calls = All-cons (λ size. size ≤ 65536) 1 (1 ∷ []) (omega arith) (All-cons (λ size. size ≤ 65536) 1 [] (omega arith) (All-nil (λ size. size ≤ 65536)));
   few_places = omega arith;
-  low_tickets = omega (arith, first_ticket);
 }
   where
+    not_hidden : (name : Name) (found : Obj) → finite.get look_heap name ≡ Some found → IsHidden name → ⊥
+    not_hidden name found there hid = let same = is_root name found there in omega (arith, hid, ap (λ (n : Name). n.ticket) same.0)
+
     nothing_hidden : hidden_count look_heap ≡ 0
     nothing_hidden = by_entries (λ es. length (filter (λ (e : Name × Obj). nat_lt 0 e.0.ticket) es))
 

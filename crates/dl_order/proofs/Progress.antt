@@ -1,21 +1,12 @@
 -- Where some caller has a call in hand, some caller does not wait.
-use Rattle.std.proofs.Common.{◌≡◌, ◌≢◌, ◌⊎◌, inl, inr, ℕ, zero, suc, ◌+◌, ◌<◌, ◌==◌, true, false, ℤ, List, [], ◌∷◌, Option, Some, None, refl, sym, ap, subst, ◌∙◌, arith}
-use Rattle.std.specs.Prelude.{slice_get, sum_by, nat_lt, if◌then◌else◌}
-use Rattle.std.specs.List.{zip}
+use Rattle.std.proofs.Common.{◌≡◌, ◌≢◌, ◌⊎◌, inl, inr, ℕ, zero, suc, ◌+◌, ◌<◌, List, [], ◌∷◌, Option, Some, None, refl, sym, ap, subst, ◌∙◌, arith}
+use Rattle.std.specs.Prelude.{slice_get, sum_by}
 use Rattle.std.specs.Option.{option_map, option_map_or}
 use Rattle.std.specs.FinMap as finite
 use Rattle.std.proofs.lemmas.List.Sums.{get_or-le-sum_by}
-use Rattle.dl_ir.specs.declared.calls.Call.{Call}
-use Rattle.dl_ir.specs.declared.modules.LocalDecl.{LocalDecl}
-use Rattle.dl_ir.specs.declared.modules.Module.{Module}
-use Rattle.dl_ir.specs.declared.modules.OpDecl.{OpDecl}
-use Rattle.dl_ir.specs.declared.modules.Ty.{Ty}
-use Rattle.dl_ir.specs.declared.modules.Ty.TheVariants as types
 use Rattle.dl_ir.specs.declared.names.Name.{Name}
 use Rattle.dl_ir.specs.declared.objects.Obj.{Obj}
-use Rattle.dl_ir.specs.CallForms.{AllFit, FitsType, IsCallOf}
-use Rattle.dl_ir.specs.Heap.{IsRootOf, root}
-use Rattle.dl_shape.specs.Operation.{root_number}
+use Rattle.dl_ir.specs.Heap.{root}
 use Rattle.dl_ir.specs.declared.answers.End.{End}
 use Rattle.dl_core.specs.declared.answers.Progress.{Progress}
 use Rattle.dl_core.specs.declared.answers.Progress.TheVariants as progress
@@ -26,7 +17,7 @@ use Rattle.dl_core.specs.declared.objects.Object.{Object}
 use Rattle.dl_core.specs.declared.stages.Stage.{Stage}
 use Rattle.dl_core.specs.declared.stages.Stage.TheVariants as stages
 use Rattle.dl_core.specs.Heaps.{plain_object, IsHeld}
-use Rattle.dl_core.specs.Plans.{Plan, IsPlan, source_of, roots_of, roots_among, put_root, put_in}
+use Rattle.dl_core.specs.Plans.{Plan, IsPlan, roots_of}
 use Rattle.dl_core.specs.Frames.{Frame, IsEntered, idle}
 use Rattle.dl_core.specs.declared.dues.Due.TheVariants.{Reserves, TakesRoot, Enters}
 use Rattle.dl_core.specs.LocalSteps.{due}
@@ -37,48 +28,15 @@ use Rattle.dl_core.specs.Reached.{Calls, IsReached}
 use Rattle.dl_core.specs.Reach.{target_of_take}
 use Rattle.dl_core.specs.Sound.{Stands, idles, waits, works, HasCall}
 use Rattle.dl_core.proofs.Diamond.{step→moves}
-use Rattle.dl_core.proofs.Names.{same_some, no_some}
+use Rattle.dl_core.proofs.Names.{no_some}
 use Rattle.dl_core.proofs.Plain.{get_plain}
+use Rattle.dl_core.proofs.CalledRoots.{root_of_call}
 use Rattle.dl_core.proofs.LawfulAlways.{lawful_always}
 use Rattle.dl_order.specs.Measure.{SomeoneMoves}
 use Rattle.dl_order.proofs.Always.{serial_on}
-use Rattle.dl_core.proofs.Elements.{Each}
 use Rattle.dl_order.proofs.Serial.{IsRow, IsCalledFor, for_places, for_a_root, for_a_ticket, called_for, waiting_due, not_called_past}
 use Rattle.dl_order.proofs.Waits.{for_roots}
 use Rattle.dl_order.proofs.Worlds.{stands_of, nowhere_unentered, unentered, moves_step}
-
--- ---- the roots of a call are there
-
-each_put_in : (P : ℕ → Type 0) (n : ℕ) (ms : List ℕ) → P n → Each P ms → Each P (put_in n ms)
-each_put_in P n [] p e = (p, tt)
-each_put_in P n (m ∷ ms) p e = elim (n == m) as (λ b. Each P (if b then m ∷ ms else (if nat_lt n m then n ∷ m ∷ ms else m ∷ put_in n ms))) [
-  | true ↦ e
-  | false ↦ elim (nat_lt n m) as (λ b. Each P (if b then n ∷ m ∷ ms else m ∷ put_in n ms)) [ true ↦ (p, e) | false ↦ (e.0, each_put_in P n ms p e.1) ]
-]
-
-module _ (source : Module) where
-  all_roots : (params : List LocalDecl) (arguments : List ℤ) → AllFit source params arguments → Each (λ n. (kind : ℕ) × IsRootOf source kind (root n)) (roots_among (zip params arguments))
-  all_roots [] [] fits = tt
-  all_roots [] (a ∷ rest) fits = absurd fits
-  all_roots (p ∷ params) [] fits = absurd fits
-  all_roots (p ∷ params) (a ∷ rest) fits = by p.ty fits.0 (roots_among (zip params rest)) (all_roots params rest fits.1)
-    where
-      by : (ty : Ty) → FitsType source ty a → (roots : List ℕ) → Each (λ n. (kind : ℕ) × IsRootOf source kind (root n)) roots → Each (λ n. (kind : ℕ) × IsRootOf source kind (root n)) (put_root ty a roots)
-      by types.Int fit roots e = e
-      by (types.Of kind) fit roots e =
-          let same : root_number a ≡ fit.number = ap root_number fit.is_number in
-          each_put_in (λ n. (kind : ℕ) × IsRootOf source kind (root n)) (root_number a) roots
-          (subst (λ n. (kind : ℕ) × IsRootOf source kind (root n)) (sym same) (kind, record { declared = fit.decl; is_there = fit.declared; is_root = fit.is_root; ticket = refl; from_first = fit.not_before; to_last = fit.not_behind })) e
-
-each_at_place : (P : ℕ → Type 0) (ns : List ℕ) (i n : ℕ) → Each P ns → slice_get ns i ≡ Some n → P n
-each_at_place P [] i n e there = absurd (no_some there)
-each_at_place P (m ∷ ns) zero n e there = subst P (same_some there) e.0
-each_at_place P (m ∷ ns) (suc i) n e there = each_at_place P ns i n e.1 there
-
-pub root_of_call : (plan : Plan) (call : Call) (at number : ℕ) → IsCallOf (source_of plan) call → slice_get (roots_of plan call) at ≡ Some number → (kind : ℕ) × IsRootOf (source_of plan) kind (root number)
-root_of_call plan call at number fits there =
-    let same : roots_of plan call ≡ roots_among (zip fits.op.params call.args) = ap (λ (o : Option OpDecl). option_map_or (λ (op : OpDecl). roots_among (zip op.params call.args)) o []) fits.declared in
-    each_at_place (λ n. (kind : ℕ) × IsRootOf (source_of plan) kind (root n)) (roots_among (zip fits.op.params call.args)) at number (all_roots (source_of plan) fits.op.params call.args fits.fits) (ap (λ ns. slice_get ns at) (sym same) ∙ there)
 
 -- ---- someone moves
 

@@ -13,7 +13,7 @@ use Rattle.dl_ir.specs.Cover.{call_at}
 use Rattle.dl_ir.specs.Heap.{Objects, hidden_count}
 use Rattle.dl_shape.specs.Operation.{operated}
 use Rattle.dl_shape.specs.Pool.{ReturnsFit, allocs_at}
-use Rattle.dl_shape.specs.Replay.{after_call, replayed, IsLegal, greatest_ticket}
+use Rattle.dl_shape.specs.Replay.{after_call, replayed, IsLegalFrom, greatest_ticket}
 use Rattle.dl_core.specs.declared.objects.Mark.{Mark}
 use Rattle.dl_core.specs.declared.objects.Mark.TheVariants as marks
 use Rattle.dl_core.specs.declared.objects.Object.{Object}
@@ -85,7 +85,7 @@ both_each P Q (x ∷ xs) p q = ((p.0, q.0), both_each P Q xs p.1 q.1)
 -- a heap and a history are a replay of calls, with consecutive tickets up to the clock
 pub record IsReplayOf (plan : Plan) (calls : Calls) (clock : ℕ) (heap : Objects) (history : List Entry) : Type 0 where
   pub heap_is : heap ≡ replayed (source_of plan) calls plan.heap history
-  pub legal : IsLegal (source_of plan) calls plan.heap history
+  pub legal : IsLegalFrom (source_of plan) calls (greatest_ticket plan.heap + 1) plan.heap history
   pub returns : ReturnsFit (source_of plan) calls plan.heap history
   pub clock_is : clock ≡ greatest_ticket plan.heap + length history
 

@@ -25,7 +25,7 @@ use Rattle.dl_core.proofs.Diamond.{Touch, Leaves, Puts, touched, Acts, Moves, mo
 use Rattle.dl_core.proofs.Clearance.{touches_clear}
 use Rattle.dl_core.proofs.Names.{same_number}
 use Rattle.dl_core.proofs.LawfulAlways.{lawful_always}
-use Rattle.dl_order.proofs.Acting.{entered_acts}
+use Rattle.dl_core.proofs.Acting.{entered_acts}
 use Rattle.dl_order.proofs.Keeping.{touch_one}
 use Rattle.dl_order.proofs.Runs.{IsOrdered}
 

@@ -6,24 +6,21 @@ use Rattle.dl_ir.specs.declared.answers.Entry.{Entry}
 use Rattle.dl_ir.specs.declared.answers.Refusal.{Refusal}
 use Rattle.dl_ir.specs.declared.closed.Closed.{Closed}
 use Rattle.dl_ir.specs.Cover.{Covers}
-use Rattle.dl_ir.specs.Heap.{hidden_count}
+use Rattle.dl_ir.specs.Heap.{IsHeapOf, hidden_count}
 use Rattle.dl_shape.specs.Closed.{IsForestClosed}
 use Rattle.dl_shape.specs.Pool.{IsLawfulPool, HasVersionsOfMovesAlone}
 use Rattle.dl_shape.specs.Replay.{replayed, IsLegal}
 use Rattle.dl_shape.specs.Rising.{in_rising}
+use Rattle.dl_shape.specs.Startable.{IsSettled}
 use Rattle.dl_closed.specs.Unsealed.{IsUnsealed}
-use Rattle.dl_core.specs.declared.stages.Stage.TheVariants as stages
 use Rattle.dl_core.specs.Heaps.{plain}
-use Rattle.dl_core.specs.Plans.{Plan, IsPlan, MayStartFrom, source_of}
-use Rattle.dl_core.specs.Core.{Core, frame_of, entries_of, refusals_of}
+use Rattle.dl_core.specs.Plans.{Plan, IsPlan, source_of}
+use Rattle.dl_core.specs.Core.{Core, entries_of, refusals_of}
+use Rattle.dl_core.specs.Machines.{AreAllIdle}
 use Rattle.dl_core.specs.Reached.{Calls, IsReached}
 use Rattle.dl_core.specs.Sound.{callers_of}
 use Rattle.dl_core.specs.Passes.{PassView}
 use Rattle.dl_core.specs.Closing.{AreDone, EndsOn, IsLawfulEnd, begun_on}
-
--- no caller has a call in hand
-abbrev pub AreAllIdle : Core → Type 0
-AreAllIdle core = (caller : ℕ) → (frame_of core.world caller).stage ≡ stages.Idle
 
 -- the operations that all callers have finished, in rising tickets
 abbrev pub history_in : Plan → Core → List Entry
@@ -35,7 +32,8 @@ all_refusals plan core = flat_map (refusals_of core) (callers_of plan)
 
 -- the calls begun were run: each stands once, in the history or among the refusals; each answer is that of the serial meaning; the pool
 -- is lawful, and an entry has no version but those of its moves; where serial runs end in forests no answer tells of a sealed object; each caller's refusals stand in order of index; the
--- heap is that of the replay, and what is not free of the places is in it; and another run may start from it
+-- heap is that of the replay, and what is not free of the places is in it; and it is a settled heap of the module, from which another run
+-- may start where its names keep their limits
 pub record IsRunOver (plan : Plan) (core : Core) (calls : Calls) : Type 0 where
   pub covers : Covers calls (history_in plan core) (all_refusals plan core)
   pub legal : IsLegal (source_of plan) calls plan.heap (history_in plan core)
@@ -45,7 +43,7 @@ pub record IsRunOver (plan : Plan) (core : Core) (calls : Calls) : Type 0 where
   pub refusals : (caller : ℕ) → All (λ (refusal : Refusal). refusal.caller ≡ caller) (refusals_of core caller) × IsNonDecreasingBy (λ (refusal : Refusal). refusal.index) (refusals_of core caller)
   pub heap : plain core.world.heap ≡ replayed (source_of plan) calls plan.heap (history_in plan core)
   pub free : core.pool.free + hidden_count (plain core.world.heap) ≡ plan.places
-  pub again : MayStartFrom (record plan { heap = plain core.world.heap })
+  pub left : IsHeapOf (source_of plan) (plain core.world.heap) × IsSettled (plain core.world.heap)
 
 -- every state to which a run comes, and in which no caller has a call in hand, is such
 abbrev pub RunsEnd : Type 0

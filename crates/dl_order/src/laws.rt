@@ -2,6 +2,7 @@
 ghost use Rattle.dl_order.specs.Ends.{RunsClose, RunsEnd};
 ghost use Rattle.dl_order.specs.Found.{AllIsThere, AnswersAreRight, EmptyObjectsComeAndGo, FramesAreReady, HoldersAreCallers, NamesAreGivenOnce, NumbersAreSmall, TakersWait};
 ghost use Rattle.dl_order.specs.Measure.{BeginsFall, EachRunCanEnd, EachRunEnds, OldestMoves, OneStepLess, RestsAreOne, SomeoneMoves, StepsFall};
+ghost use Rattle.dl_order.specs.OneCaller.{OneCallerIsSerial};
 ghost use Rattle.dl_order.specs.Serial.{LoneStepsAreSteps, NoCycle, NoSeal, SerialAlways, WaitsForHigherRoots, WaitsForOlder};
 
 /// That the running operations of each state end, alone and one after another, in the replay of all that entered, in rising
@@ -54,6 +55,12 @@ pub fn no_seal()
 /// refusals; each answer is that of the serial meaning; the pool is lawful; and the heap is that of the replay.
 pub fn runs_end()
     ensures { RunsEnd }
+{}
+
+/// That where one caller alone begins operations, each that ends has the answer, and leaves the heap, that its call gives from
+/// the heap as it stood when the call began.
+pub fn one_caller_is_serial()
+    ensures { OneCallerIsSerial }
 {}
 
 /// That what is left of a run that is closed when each pass is idle is what the run leaves by the serial meaning.

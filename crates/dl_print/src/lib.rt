@@ -8,8 +8,6 @@ mod laws;
 mod module;
 mod operands;
 mod statements;
-#[cfg(test)]
-mod tests;
 mod words;
 
 pub use laws::pieces_are_tokens;

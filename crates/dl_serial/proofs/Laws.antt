@@ -17,14 +17,14 @@ pub call_of_one : (calls : List Call) (n caller index : ℕ) (call : Call) → s
 call_of_one calls n caller index call there is_one is_next = rw (is_one, is_next, add-one n) there
 
 -- a replay of one entry more
-replayed-push : (source : Module) (files : List (List Call)) (heap : Objects) (es : List Entry) (e : Entry) (call : Call) → call_at files e.caller e.index ≡ Some call
+pub replayed-push : (source : Module) (files : List (List Call)) (heap : Objects) (es : List Entry) (e : Entry) (call : Call) → call_at files e.caller e.index ≡ Some call
     → replayed source files heap (es ++ e ∷ []) ≡ (operated source (replayed source files heap es) e.ticket call).objects
 replayed-push source files heap es e call there =
     fold-append (λ (objects : Objects) (entry : Entry). after_call source objects entry.ticket (call_at files entry.caller entry.index)) heap es (e ∷ [])
     ∙ ap (after_call source (replayed source files heap es) e.ticket) there
 
 -- a legal history goes on with one entry more
-legal-push : (source : Module) (files : List (List Call)) {ticket : ℕ} {heap : Objects} {es : List Entry} (e : Entry) (call : Call) → IsLegalFrom source files ticket heap es
+pub legal-push : (source : Module) (files : List (List Call)) {ticket : ℕ} {heap : Objects} {es : List Entry} (e : Entry) (call : Call) → IsLegalFrom source files ticket heap es
     → e.ticket ≡ ticket + length es → call_at files e.caller e.index ≡ Some call → e.answer ≡ (operated source (replayed source files heap es) e.ticket call).answer
     → IsLegalFrom source files ticket heap (es ++ e ∷ [])
 legal-push source files {ticket = t} {heap = h} e call ends drawn there answered =

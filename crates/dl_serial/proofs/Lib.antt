@@ -2,7 +2,7 @@ mod Counts
 mod Covering
 mod Lawful
 mod Lawfulness
-mod Laws
+pub mod Laws
 mod Levels
 mod Lines
 pub mod Listed
@@ -13,5 +13,4 @@ mod Returns
 mod Rising
 mod RootNumbers
 mod Sizes
-pub mod Starting
 mod Turns

@@ -11,7 +11,8 @@ ghost use Rattle.dl_shape.specs.Operation.{operated};
 ghost use Rattle.dl_ir.specs.declared.moves.Move.{Move as OneMove};
 ghost use Rattle.dl_shape.specs.Pool.{moves_of, in_rising_versions, IsLawfulPool, HasVersionsOfMovesAlone};
 ghost use Rattle.dl_shape.specs.Rising.{AreApart};
-ghost use Rattle.dl_shape.specs.Replay.{replayed, greatest_ticket, IsLegal};
+ghost use Rattle.dl_shape.specs.Replay.{replayed, IsLegal};
+ghost use Rattle.dl_shape.specs.Startable.{IsStartable, greatest_ticket};
 ghost use Rattle.dl_serial.specs.Progress.{IsReady, IsAfter, Passes};
 ghost use Rattle.dl_serial.specs.Refusing.{AreOfOne, RefusesExactly};
 ghost use Rattle.dl_serial.specs.Rooms.{allocs_of};
@@ -41,7 +42,7 @@ pub struct Line {
     pub version: u64,
 }
 
-/// Runs the operations of caller 1 one after another, with tickets from `first` on. An operation is refused exactly
+/// Runs the operations of caller 1 one after another, with tickets from `first` on, one above those of the heap. An operation is refused exactly
 /// where the places less the hidden objects are below the number of objects that it may make. Where memory is wanting,
 /// also because the heap has no room, the heap is spent: it is of no use but to be dropped.
 pub fn run_calls(
@@ -54,9 +55,8 @@ pub fn run_calls(
 ) -> Result<Served, AllocError>
     requires checked { IsChecked source.now }
     requires of_module { AreCallsOf source.now calls.now }
-    requires heap { IsHeapOf source.now heap.old.objects }
+    requires startable { IsStartable source.now heap.old.objects }
     requires next { first ≡ greatest_ticket heap.old.objects + 1 }
-    requires small { first ≤ 4611686018427387905 }
     requires hidden { hidden_count heap.old.objects ≤ places }
     ensures replay { IfOk result (λ served. replayed source.now (calls.now ∷ []) heap.old.objects served.entries ≡ heap.new.objects) }
     ensures legal { IfOk result (λ served. IsLegal source.now (calls.now ∷ []) heap.old.objects served.entries) }

@@ -3,3 +3,5 @@ pub mod Legal
 pub mod Order
 pub mod Rising
 pub mod Sealing
+mod StartHeap
+pub mod Starting

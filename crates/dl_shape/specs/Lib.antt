@@ -1,6 +1,7 @@
 pub mod References
 pub mod Settling
 pub mod Operation
+pub mod Startable
 pub mod Replay
 pub mod Rising
 pub mod Pool

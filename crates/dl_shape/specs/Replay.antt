@@ -1,14 +1,13 @@
 -- The replay of a history, and which histories are legal.
-use Rattle.std.specs.Prelude.{◌≡◌, ◌+◌, ℕ, Option, Some, None, List, [], ◌∷◌, fold, max}
-use Rattle.std.specs.FinMap as finite
-use Rattle.dl_ir.specs.declared.names.Name.{Name}
-use Rattle.dl_ir.specs.declared.objects.Obj.{Obj}
+use Rattle.std.specs.Prelude.{◌≡◌, ◌+◌, ℕ, Option, Some, None, List, [], ◌∷◌, fold}
 use Rattle.dl_ir.specs.declared.modules.Module.{Module}
 use Rattle.dl_ir.specs.declared.calls.Call.{Call}
 use Rattle.dl_ir.specs.declared.answers.Entry.{Entry}
 use Rattle.dl_ir.specs.Cover.{call_at}
 use Rattle.dl_ir.specs.Heap.{Objects}
 use Rattle.dl_shape.specs.Operation.{operated}
+use Rattle.dl_shape.specs.Startable.{IsStartable}
+pub use Rattle.dl_shape.specs.Startable.{greatest_ticket}
 
 -- the heap after a call with a ticket; where there is no call, the heap as it was
 abbrev pub after_call : Module → Objects → ℕ → Option Call → Objects
@@ -27,10 +26,8 @@ pub data IsLegalFrom (source : Module) (files : List (List Call)) : ℕ → Obje
       → IsLegalFrom source files (ticket + 1) (operated source heap ticket call).objects rest
       → IsLegalFrom source files ticket heap (entry ∷ rest)
 
--- the greatest ticket of a heap's names, 0 where it has roots alone
-abbrev pub greatest_ticket : Objects → ℕ
-greatest_ticket heap = fold (λ greatest (entry : Name × Obj). max greatest entry.0.ticket) 0 (finite.entries heap)
-
--- the tickets of a history rise by one from the heap's greatest on, and its answers are those of its replay
-abbrev pub IsLegal : Module → List (List Call) → Objects → List Entry → Type 0
-IsLegal source files heap history = IsLegalFrom source files (greatest_ticket heap + 1) heap history
+-- a history is legal from a heap: a run may start from the heap, the tickets rise by one from the heap's greatest on, and the answers
+-- are those of the replay
+pub record IsLegal (source : Module) (files : List (List Call)) (heap : Objects) (history : List Entry) : Type 0 where
+  pub startable : IsStartable source heap
+  pub goes : IsLegalFrom source files (greatest_ticket heap + 1) heap history

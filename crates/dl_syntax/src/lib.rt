@@ -5,10 +5,9 @@
 mod calls;
 mod number;
 mod operation_file;
-#[cfg(test)]
-mod tests;
 mod words;
 
 pub use calls::CallsFault;
-pub use number::digits_up_to;
-pub use operation_file::read_calls;
+pub use number::{digits_up_to, is_digit};
+pub use operation_file::{read_calls, wrong_byte};
+pub use words::{before_comment, first_line, next_word};

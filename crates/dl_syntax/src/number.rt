@@ -8,7 +8,8 @@ use crate::words::next_word;
 use sqlite_items::Items;
 use std::alloc::{AllocError, Global};
 
-fn is_digit(byte: u8) -> bool
+/// Whether a byte is a decimal digit.
+pub fn is_digit(byte: u8) -> bool
     ensures { result ≡ is_digit byte }
 {
     matches!(byte, b'0'..=b'9')

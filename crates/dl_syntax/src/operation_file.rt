@@ -30,7 +30,7 @@ fn is_wrong(byte: u8) -> bool
 }
 
 /// The first byte of a line that no operation file has.
-fn wrong_byte(line: &[u8]) -> Option<u8>
+pub fn wrong_byte(line: &[u8]) -> Option<u8>
     ensures { result ≡ find is_wrong line.now }
 {
     line.iter().copied().find(|b| is_wrong(*b))

@@ -10,8 +10,3 @@ mod statements;
 
 pub use fault::TypeFault;
 pub use module::{check, checked_modules};
-
-#[cfg(test)]
-mod grammar_tests;
-#[cfg(test)]
-mod tests;

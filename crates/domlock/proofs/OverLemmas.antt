@@ -71,7 +71,7 @@ module _ (source : Module) (all : List (List Call)) (places : ℕ) (closed : Clo
 
   pub tickets_apart : AreApart ticket (joined closed.entries)
   tickets_apart = apart_moves ticket (history_left closed) (joined closed.entries) (IsPermutation-sym _ _ (rising_moves ticket (joined closed.entries)))
-      (rises_apart ticket (history_left closed) (legal_rises runs.lawful.legal))
+      (rises_apart ticket (history_left closed) (legal_rises runs.lawful.legal.goes))
 
   pub versions_apart : AreApart version (moves_of source all (joined closed.entries))
   versions_apart =

@@ -104,13 +104,12 @@ pub fn run_over<R: Threads + Wait + Sync, G: Ground, T: Gate>(
 {
     codes_of_modules();
     let files = input.all.as_slice();
-    let heap = Heap::start(alloc, &input.source, 0)?;
     let code = instrument(alloc, &input.source)?;
     let sizes = sizes_of(alloc, files)?;
     let total = total_of(files);
     let room = MergeRoom::new(alloc, total)?;
     let mut refusals = Vec::with_capacity(alloc, total as usize)?;
-    let (all, passes) = G::over(alloc, code, &heap, places, &sizes)?;
+    let (all, passes) = G::start(alloc, code, places, &sizes)?;
     let closed = run_files(rt, all, passes, files, gate);
     let history = merge(&input.source, files, &closed, room);
     gather(closed.refusals.as_slice(), &mut refusals);

@@ -14,10 +14,10 @@ store-requires g c =
       search rules,
       search rules,
       subst
-          (λ sight. Allows (IsTurn g.M.Machine.plan g.M.Machine.core (g.M.Machine.plan c.args.table.now.key)) c.args.table.now.table_id.slots c.exchange.new.seat.id c.exchange.new.seat.me 0 (λ _. 0)
+          (λ sight. Allows (IsTurn g.M.Machine.runs g.M.Machine.state (g.M.Machine.opening c.args.table.now.key)) c.args.table.now.table_id.slots c.exchange.new.seat.id c.exchange.new.seat.me 0 (λ _. 0)
           (λ _. gives sight (step c.args.table.now.table_id.slots 0 0 0 none) c.exchange.new.seat.me 0))
-          (ap (λ sight. sight_after (g.M.Machine.core c.args.machine) (call_of c.args.op c.args.args.now) c.args.answer.now sight) same ∙ sym c.requires.named)
-          (given g.M.Machine.plan g.M.Machine.core (g.M.Machine.plan c.args.table.now.key) _ _ c.exchange.new.seat.me c.args.machine (call_of c.args.op c.args.args.now) c.args.answer.now
-          (subst (λ sight. MayGive g.M.Machine.plan g.M.Machine.core (g.M.Machine.plan c.args.table.now.key) sight c.args.machine (call_of c.args.op c.args.args.now) c.args.answer.now) (sym same) c.requires.may)
+          (ap (λ sight. sight_after (g.M.Machine.state c.args.machine) (call_of c.args.op c.args.args.now) c.args.answer.now sight) same ∙ sym c.requires.named)
+          (given g.M.Machine.runs g.M.Machine.state (g.M.Machine.opening c.args.table.now.key) _ _ c.exchange.new.seat.me c.args.machine (call_of c.args.op c.args.args.now) c.args.answer.now
+          (subst (λ sight. MayGive g.M.Machine.runs g.M.Machine.state (g.M.Machine.opening c.args.table.now.key) sight c.args.machine (call_of c.args.op c.args.args.now) c.args.answer.now) (sym same) c.requires.may)
           slot (search rules)),
     )

@@ -2,4 +2,4 @@ use Rattle.std.proofs.Common.{Some}
 use Rattle.dl_coarse.proofs.steps.grab.Given as goal
 
 abbrev pub ghosts-grab_at : goal.ghosts-grab_at
-ghosts-grab_at g a = record { plan = Some (g.M.Machine.plan a.table.now.key) }
+ghosts-grab_at g a = record { plan = Some (g.M.Machine.opening a.table.now.key) }

@@ -4,4 +4,4 @@ use Rattle.dl_coarse.proofs.steps.see_version.Goals as goal
 
 pub load-requires : goal.load-requires
 load-requires g c = let t = c.requires.turn in
-    (search rules, search rules, seen g.M.Machine.plan g.M.Machine.core (g.M.Machine.plan c.args.table.now.key) _ _ c.args.seat.now.me t.0 t.1)
+    (search rules, search rules, seen g.M.Machine.runs g.M.Machine.state (g.M.Machine.opening c.args.table.now.key) _ _ c.args.seat.now.me t.0 t.1)

@@ -64,8 +64,10 @@ pub returns-clause-replay : goal.returns-clause-replay
 returns-clause-replay c = serves_replayed _ _ _ _ _ c.loop-at.invariant.after.serves
 
 pub returns-clause-legal : goal.returns-clause-legal
-returns-clause-legal c =
-    subst (λ n. IsLegalFrom c.args.source.now (c.args.calls.now ∷ []) n c.args.heap.now.objects c.loop-at.line.entries) c.requires.next (serves_legal _ _ _ _ _ c.loop-at.invariant.after.serves)
+returns-clause-legal c = record {
+  startable = c.requires.startable;
+  goes = subst (λ n. IsLegalFrom c.args.source.now (c.args.calls.now ∷ []) n c.args.heap.now.objects c.loop-at.line.entries) c.requires.next (serves_legal _ _ _ _ _ c.loop-at.invariant.after.serves);
+}
 
 pub returns-clause-covers : goal.returns-clause-covers
 returns-clause-covers c =
@@ -85,15 +87,15 @@ below_first h first next = subst (λ n. HasTicketsBelow n h) (sym next) (below_n
 
 pub returns-clause-heap : goal.returns-clause-heap
 returns-clause-heap c =
-    (serves_heap c.args.source.now c.args.places c.args.first c.args.heap.now.objects c.args.calls.now c.requires.checked c.requires.of_module.each c.requires.heap (below_first _ _ c.requires.next)
+    (serves_heap c.args.source.now c.args.places c.args.first c.args.heap.now.objects c.args.calls.now c.requires.checked c.requires.of_module.each c.requires.startable.of_module (below_first _ _ c.requires.next)
     c.loop-at.invariant.after.serves).0
 
 pub serve-requires-clause-heap : goal.serve-requires-clause-heap
 serve-requires-clause-heap c =
-    (serves_heap c.args.source.now c.args.places c.args.first c.args.heap.now.objects c.args.calls.now c.requires.checked c.requires.of_module.each c.requires.heap (below_first _ _ c.requires.next)
+    (serves_heap c.args.source.now c.args.places c.args.first c.args.heap.now.objects c.args.calls.now c.requires.checked c.requires.of_module.each c.requires.startable.of_module (below_first _ _ c.requires.next)
     c.loop-at.invariant.after.serves).0
 
 pub serve-requires-clause-below : goal.serve-requires-clause-below
 serve-requires-clause-below c = subst (λ n. HasTicketsBelow n c.loop-at.heap.objects) (sym c.loop-at.invariant.after.ticket)
-    (serves_heap c.args.source.now c.args.places c.args.first c.args.heap.now.objects c.args.calls.now c.requires.checked c.requires.of_module.each c.requires.heap (below_first _ _ c.requires.next)
+    (serves_heap c.args.source.now c.args.places c.args.first c.args.heap.now.objects c.args.calls.now c.requires.checked c.requires.of_module.each c.requires.startable.of_module (below_first _ _ c.requires.next)
     c.loop-at.invariant.after.serves).1

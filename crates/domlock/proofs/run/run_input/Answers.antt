@@ -5,11 +5,14 @@ use Rattle.dl_ir.specs.Heap.{View}
 use Rattle.dl_shape.specs.Rising.{in_rising, AreApart}
 use Rattle.dl_shape.proofs.Legal.{legal_rises}
 use Rattle.dl_shape.proofs.Rising.{rising_is, rises_apart}
+use Rattle.dl_shape.proofs.Starting.{greatest_ticket-start, hidden_count-start, start_is_startable}
 use Rattle.dl_history.specs.Histories.{joined, AreByCaller}
 use Rattle.dl_closed.proofs.Histories.{never_seals}
-use Rattle.dl_serial.proofs.Starting.{greatest_ticket-start, hidden_count-start}
 use Rattle.domlock.proofs.RunLemmas.{one_element, one_by_caller, one_in_order}
 use Rattle.domlock.proofs.run.run_input.Goals as goal
+
+pub run_calls-requires-clause-startable : goal.run_calls-requires-clause-startable
+run_calls-requires-clause-startable c = rw c.in_ok-heap.ensures.start (start_is_startable c.args.input.now.source c.requires.checked.start)
 
 pub run_calls-requires-clause-next : goal.run_calls-requires-clause-next
 run_calls-requires-clause-next c = rw (c.in_ok-heap.ensures.start, greatest_ticket-start) refl
@@ -28,7 +31,7 @@ pub merge-history-requires-clause-tickets : goal.merge-history-requires-clause-t
 merge-history-requires-clause-tickets c =
     let list : joined c.in_ok-closed.closed.entries ≡ c.in_ok-served.served.entries = ap joined c.in_ok-closed.ensures.entries ∙ append-nil _ in
     subst (λ es. AreApart (λ (entry : OneEntry). entry.ticket) es) (sym list)
-    (rises_apart (λ (entry : OneEntry). entry.ticket) _ (legal_rises c.in_ok-served.ensures.legal))
+    (rises_apart (λ (entry : OneEntry). entry.ticket) _ (legal_rises c.in_ok-served.ensures.legal.goes))
 
 pub merge-history-requires-clause-versions : goal.merge-history-requires-clause-versions
 merge-history-requires-clause-versions c =
@@ -45,7 +48,7 @@ returns-clause-run c =
     let list : joined c.in_ok-closed.closed.entries ≡ c.in_ok-served.served.entries = ap joined c.in_ok-closed.ensures.entries ∙ append-nil _ in
     let same : c.merge-history.result.entries ≡ c.in_ok-served.served.entries
     = c.merge-history.ensures.entries ∙ ap (in_rising (λ (entry : OneEntry). entry.ticket)) list
-    ∙ rising_is (λ (entry : OneEntry). entry.ticket) _ (legal_rises c.in_ok-served.ensures.legal) in
+    ∙ rising_is (λ (entry : OneEntry). entry.ticket) _ (legal_rises c.in_ok-served.ensures.legal.goes) in
     let those : c.in_ok-refusals.refusals ≡ c.in_ok-served.served.refusals = c.in_ok-refusals.ensures ∙ c.as_slice.ensures in
     let of_one = c.in_ok-served.ensures.refusals in
     let moves = rw (c.as_slice-2.ensures.value, one, same) at c.merge-history.ensures.moves in
@@ -66,7 +69,7 @@ returns-clause-heap c =
     let list : joined c.in_ok-closed.closed.entries ≡ c.in_ok-served.served.entries = ap joined c.in_ok-closed.ensures.entries ∙ append-nil _ in
     let same : c.merge-history.result.entries ≡ c.in_ok-served.served.entries
     = c.merge-history.ensures.entries ∙ ap (in_rising (λ (entry : OneEntry). entry.ticket)) list
-    ∙ rising_is (λ (entry : OneEntry). entry.ticket) _ (legal_rises c.in_ok-served.ensures.legal) in
+    ∙ rising_is (λ (entry : OneEntry). entry.ticket) _ (legal_rises c.in_ok-served.ensures.legal.goes) in
     rw (one, same) (ap (λ (h : View). h.objects) c.in_ok-closed.ensures.heap ∙ sym replay)
 
 pub returns-clause-refusals : goal.returns-clause-refusals

@@ -10,15 +10,14 @@ use Rattle.domlock.proofs.PlanLemmas.{starts_plan}
 use Rattle.domlock.proofs.OverLemmas.{entries_few, is_run, refusals_few, runs_over, tickets_apart, versions_apart}
 use Rattle.domlock.proofs.run.run_over.Goals as goal
 
-pub over-requires : goal.over-requires
-over-requires g c =
+pub start-requires : goal.start-requires
+start-requires g c =
     let source = c.args.input.now.source in
     let all : List (List Call) = c.args.input.now.all.items in
     let files : c.as_slice-files.result.now ≡ all = search rules in
     let sizes : c.deref.result.now ≡ map length all = search rules in
-    let heap : c.in_ok-heap.heap.objects ≡ start_objects source = search rules in
-    let is = starts_plan c.codes_of_modules.ensures.plain source all c.args.places (subst (IsHeapOf source) heap c.in_ok-heap.ensures.of_module) c.requires.checked c.requires.calls c.requires.some c.requires.few c.requires.places in
-    record { plan = rw (c.in_ok-code.ensures, heap, sizes) is }
+    let is = starts_plan c.codes_of_modules.ensures.plain source all c.args.places c.requires.checked c.requires.calls c.requires.some c.requires.few c.requires.places in
+    record { plan = rw (c.in_ok-code.ensures, sizes) is }
 
 pub run_files-closed-requires-clause-plan : goal.run_files-closed-requires-clause-plan
 run_files-closed-requires-clause-plan g c κs within =
@@ -26,9 +25,8 @@ run_files-closed-requires-clause-plan g c κs within =
     let all : List (List Call) = c.args.input.now.all.items in
     let files : c.as_slice-files.result.now ≡ all = search rules in
     let sizes : c.deref.result.now ≡ map length all = search rules in
-    let heap : c.in_ok-heap.heap.objects ≡ start_objects source = search rules in
-    let is = starts_plan c.codes_of_modules.ensures.plain source all c.args.places (subst (IsHeapOf source) heap c.in_ok-heap.ensures.of_module) c.requires.checked c.requires.calls c.requires.some c.requires.few c.requires.places in
-    rw (c.in_ok-all.ensures.plan, c.in_ok-code.ensures, heap, sizes) is
+    let is = starts_plan c.codes_of_modules.ensures.plain source all c.args.places c.requires.checked c.requires.calls c.requires.some c.requires.few c.requires.places in
+    rw (c.in_ok-all.ensures.plan, c.in_ok-code.ensures, sizes) is
 
 pub merge-history-requires-clause-room : goal.merge-history-requires-clause-room
 merge-history-requires-clause-room g c =
@@ -36,9 +34,8 @@ merge-history-requires-clause-room g c =
     let all : List (List Call) = c.args.input.now.all.items in
     let files : c.as_slice-files.result.now ≡ all = search rules in
     let sizes : c.deref.result.now ≡ map length all = search rules in
-    let heap : c.in_ok-heap.heap.objects ≡ start_objects source = search rules in
     let closed : Closed = c.run_files-closed.result in
-    let same : g.G.Ground.plan c.in_ok-all.all ≡ first_plan (code source) c.args.places (map length all) = rw (c.in_ok-all.ensures.plan, c.in_ok-code.ensures, heap, sizes) refl in
+    let same : g.G.Ground.plan c.in_ok-all.all ≡ first_plan (code source) c.args.places (map length all) = rw (c.in_ok-all.ensures.plan, c.in_ok-code.ensures, sizes) refl in
     let runs = runs_over source all c.as_slice-files.result.now c.args.places (g.G.Ground.plan c.in_ok-all.all) closed same files c.run_files-closed.ensures in
     let total : c.total_of-total.result ≡ sum_by length all = search rules in
     let few = entries_few source all c.args.places closed runs in
@@ -50,9 +47,8 @@ merge-history-requires-clause-tickets g c =
     let all : List (List Call) = c.args.input.now.all.items in
     let files : c.as_slice-files.result.now ≡ all = search rules in
     let sizes : c.deref.result.now ≡ map length all = search rules in
-    let heap : c.in_ok-heap.heap.objects ≡ start_objects source = search rules in
     let closed : Closed = c.run_files-closed.result in
-    let same : g.G.Ground.plan c.in_ok-all.all ≡ first_plan (code source) c.args.places (map length all) = rw (c.in_ok-all.ensures.plan, c.in_ok-code.ensures, heap, sizes) refl in
+    let same : g.G.Ground.plan c.in_ok-all.all ≡ first_plan (code source) c.args.places (map length all) = rw (c.in_ok-all.ensures.plan, c.in_ok-code.ensures, sizes) refl in
     let runs = runs_over source all c.as_slice-files.result.now c.args.places (g.G.Ground.plan c.in_ok-all.all) closed same files c.run_files-closed.ensures in
     tickets_apart source all c.args.places closed runs
 
@@ -62,9 +58,8 @@ merge-history-requires-clause-versions g c =
     let all : List (List Call) = c.args.input.now.all.items in
     let files : c.as_slice-files.result.now ≡ all = search rules in
     let sizes : c.deref.result.now ≡ map length all = search rules in
-    let heap : c.in_ok-heap.heap.objects ≡ start_objects source = search rules in
     let closed : Closed = c.run_files-closed.result in
-    let same : g.G.Ground.plan c.in_ok-all.all ≡ first_plan (code source) c.args.places (map length all) = rw (c.in_ok-all.ensures.plan, c.in_ok-code.ensures, heap, sizes) refl in
+    let same : g.G.Ground.plan c.in_ok-all.all ≡ first_plan (code source) c.args.places (map length all) = rw (c.in_ok-all.ensures.plan, c.in_ok-code.ensures, sizes) refl in
     let runs = runs_over source all c.as_slice-files.result.now c.args.places (g.G.Ground.plan c.in_ok-all.all) closed same files c.run_files-closed.ensures in
     rw files (versions_apart source all c.args.places closed runs)
 
@@ -74,9 +69,8 @@ gather-requires g c =
     let all : List (List Call) = c.args.input.now.all.items in
     let files : c.as_slice-files.result.now ≡ all = search rules in
     let sizes : c.deref.result.now ≡ map length all = search rules in
-    let heap : c.in_ok-heap.heap.objects ≡ start_objects source = search rules in
     let closed : Closed = c.run_files-closed.result in
-    let same : g.G.Ground.plan c.in_ok-all.all ≡ first_plan (code source) c.args.places (map length all) = rw (c.in_ok-all.ensures.plan, c.in_ok-code.ensures, heap, sizes) refl in
+    let same : g.G.Ground.plan c.in_ok-all.all ≡ first_plan (code source) c.args.places (map length all) = rw (c.in_ok-all.ensures.plan, c.in_ok-code.ensures, sizes) refl in
     let runs = runs_over source all c.as_slice-files.result.now c.args.places (g.G.Ground.plan c.in_ok-all.all) closed same files c.run_files-closed.ensures in
     let total : c.total_of-total.result ≡ sum_by length all = search rules in
     let few = refusals_few source all c.args.places closed runs in
@@ -91,9 +85,8 @@ returns-clause-run g c =
     let all : List (List Call) = c.args.input.now.all.items in
     let files : c.as_slice-files.result.now ≡ all = search rules in
     let sizes : c.deref.result.now ≡ map length all = search rules in
-    let heap : c.in_ok-heap.heap.objects ≡ start_objects source = search rules in
     let closed : Closed = c.run_files-closed.result in
-    let same : g.G.Ground.plan c.in_ok-all.all ≡ first_plan (code source) c.args.places (map length all) = rw (c.in_ok-all.ensures.plan, c.in_ok-code.ensures, heap, sizes) refl in
+    let same : g.G.Ground.plan c.in_ok-all.all ≡ first_plan (code source) c.args.places (map length all) = rw (c.in_ok-all.ensures.plan, c.in_ok-code.ensures, sizes) refl in
     let runs = runs_over source all c.as_slice-files.result.now c.args.places (g.G.Ground.plan c.in_ok-all.all) closed same files c.run_files-closed.ensures in
     let those : c.as_slice.result.now ≡ closed.refusals = search rules in
     let empty : c.in_ok-refusals.refusals.items ≡ [] = search rules in

@@ -1,0 +1,7 @@
+//! The replay of a history: whether it is legal, and the heap to which it leads.
+#![tactic(auto)]
+
+mod copies;
+mod replays;
+
+pub use replays::{ReplayFault, Replayed, replay};

@@ -1,0 +1,3 @@
+-- What contracts on schedule files speak of.
+pub mod Rules
+pub mod Reading
