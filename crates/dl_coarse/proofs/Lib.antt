@@ -7,3 +7,4 @@ pub mod Ending
 pub mod Gathering
 pub mod Stepping
 pub mod LoneTurn
+pub mod LoneSteps

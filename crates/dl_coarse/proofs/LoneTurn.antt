@@ -30,11 +30,12 @@ use Rattle.dl_core.specs.LocalSteps.{due, next_root}
 use Rattle.dl_core.specs.Plans.{Plan, IsPlan, allocs_of, fuel_of, locals_of, roots_of}
 use Rattle.dl_core.specs.Reached.{Calls, IsReached, MayBegin, begins, steps, with_begun}
 use Rattle.dl_core.specs.Sound.{Stands, idles, waits, works}
-use Rattle.dl_core.specs.Turns.{Leaves}
+use Rattle.dl_core.specs.Turns.{Leaves, MayRun}
 use Rattle.dl_core.proofs.Kept.{ready_same}
 use Rattle.dl_core.proofs.LawfulAlways.{lawful_always}
 use Rattle.dl_core.proofs.Names.{no_some, same_some}
 use Rattle.dl_order.proofs.Always.{Touches, asks_when, at_root, finishes_when, runs_on, touches_when}
+use Rattle.dl_order.proofs.Ending.{each_run_ends}
 use Rattle.dl_order.proofs.Entering.{enters_when}
 use Rattle.dl_order.proofs.Keeping.{IsOne, touch_one}
 use Rattle.dl_order.proofs.Progress.{someone_moves, stands_called}
@@ -628,3 +629,16 @@ module _ (plan : Plan) (is : IsPlan plan) (caller : ℕ) (call : Call) (core : C
 
   pub leaves_begun : (answer : Progress) (end : Core) → IsOver answer → RunsTo plan caller answer begun_core end → Leaves plan core caller call answer end
   leaves_begun answer end over runs = leaves_on answer begun_core end (begins caller call reached may) starts_so (λ given more. more) over runs
+
+-- an operation that is begun while no other runs ends
+pub ends_begun : (plan : Plan) → IsPlan plan → (caller : ℕ) (call : Call) (core : Core) → MayRun plan core caller call → (more : ℕ) × EndsAfter plan caller more (step plan (with_call core caller call) caller)
+ends_begun plan is caller call core run =
+    let then_reached = begins caller call run.reached run.may in
+    let place = has_place plan is caller core run.calls run.reached run.may.is_caller.to_last in
+    let called : (frame_of (with_call core caller call).world caller).stage ≡ stages.Called = ap (λ (f : Frame). f.stage) (get_or-set_same core.world.frames caller (begun call (frame_of core.world caller)) idle place.frame) in
+    ends_alone plan is caller (with_call core caller call) (with_begun run.calls caller call) then_reached (each_run_ends plan (with_call core caller call) (with_begun run.calls caller call) is then_reached) run.may.is_caller.to_last
+    (λ none. called_idle (sym called ∙ none))
+    (λ other apart. ap (λ (f : Frame). f.stage) (get_or-set_other core.world.frames caller other (begun call (frame_of core.world caller)) idle apart) ∙ run.rest other)
+  where
+    called_idle : stages.Called ≡ stages.Idle → ⊥
+    called_idle same = cc same

@@ -58,7 +58,7 @@ ends_prop plan caller more None = ⊥_prop
 ends_prop plan caller zero (Some done) = over_prop done.1
 ends_prop plan caller (suc more) (Some done) = ×_prop (goes_prop done.1) (ends_prop plan caller more (step plan done.0 caller))
 
-one_end : (plan : Plan) (caller more other : ℕ) (done : Option Stepped) → EndsAfter plan caller more done → EndsAfter plan caller other done → more ≡ other
+pub one_end : (plan : Plan) (caller more other : ℕ) (done : Option Stepped) → EndsAfter plan caller more done → EndsAfter plan caller other done → more ≡ other
 one_end plan caller more other None a b = absurd a
 one_end plan caller zero zero (Some done) a b = refl
 one_end plan caller zero (suc other) (Some done) a b = absurd (not_both done.1 b.0 a)

@@ -5,3 +5,4 @@ pub mod Marks
 pub mod Passes
 pub mod Ends
 pub mod Going
+pub mod Lone

@@ -2,6 +2,8 @@
 #![tactic(auto)]
 
 mod closings;
+mod going;
+mod lone;
 mod machines;
 mod openings;
 mod passes;

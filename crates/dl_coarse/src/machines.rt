@@ -50,7 +50,7 @@ pub trait Machine: Drop {
     /// Begins a call and runs its operation to the end.
     fn run(self, caller: u32, op: u32, args: &[i64]) -> (Self, Progress)
         requires may { (plan : Plan) × runs plan self × MayRun plan (state self) caller (call_of op args.now) }
-        ensures runs { (plan : Plan) → runs plan self → runs plan result.0 }
+        ensures runs { (plan : Plan) → runs plan self → MayRun plan (state self) caller (call_of op args.now) → runs plan result.0 }
         ensures leaves { (plan : Plan) → runs plan self → MayRun plan (state self) caller (call_of op args.now) → Leaves plan (state self) caller (call_of op args.now) result.1 (state result.0) };
 
     /// What the run leaves.

@@ -16,7 +16,7 @@ mark-requires-clause-may g c =
     let room : length (own_of before).calls < size_of plan (own_of before).number = subst (λ (n : ℕ). length (own_of before).calls < size_of plan n) (sym c.requires.number.0) c.requires.room in
     let may = may_run g.M.Machine.runs g.M.Machine.state plan before call c.requires.resting.0 c.in_ok-machine.machine got.0 room c.requires.fits in
     let leaves = leaves_here g.M.Machine.state plan c.in_ok-machine.machine c.run-left.result.0 (own_of before).number c.args.number call c.run-left.result.1 c.requires.number.0 may (c.run-left.ensures.leaves plan got.0.of_run) in
-    let of_run = c.run-left.ensures.runs plan got.0.of_run in
+    let of_run = c.run-left.ensures.runs plan got.0.of_run (subst (λ (n : ℕ). MayRun plan (g.M.Machine.state c.in_ok-machine.machine) n call) c.requires.number.0 may) in
     may_mark g.M.Machine.runs g.M.Machine.state plan before call c.requires.resting.0 c.in_ok-machine.machine got.0 room c.requires.fits c.run-left.result.0 c.run-left.result.1 of_run leaves
     c.grab.new.seat.me.0 c.version-old.result (ap (λ me. me.0) got.1) c.version-old.ensures
 
@@ -29,7 +29,7 @@ give-requires-clause-may g c =
     let room : length (own_of before).calls < size_of plan (own_of before).number = subst (λ (n : ℕ). length (own_of before).calls < size_of plan n) (sym c.requires.number.0) c.requires.room in
     let may = may_run g.M.Machine.runs g.M.Machine.state plan before call c.requires.resting.0 c.in_ok-machine.machine got.0 room c.requires.fits in
     let leaves = leaves_here g.M.Machine.state plan c.in_ok-machine.machine c.run-left.result.0 (own_of before).number c.args.number call c.run-left.result.1 c.requires.number.0 may (c.run-left.ensures.leaves plan got.0.of_run) in
-    let of_run = c.run-left.ensures.runs plan got.0.of_run in
+    let of_run = c.run-left.ensures.runs plan got.0.of_run (subst (λ (n : ℕ). MayRun plan (g.M.Machine.state c.in_ok-machine.machine) n call) c.requires.number.0 may) in
     may_give g.M.Machine.runs g.M.Machine.state plan before call c.requires.resting.0 c.in_ok-machine.machine got.0 room c.requires.fits c.run-left.result.0 c.run-left.result.1 of_run leaves
     c.mark.new.seat.me.0
     (is_marked g.M.Machine.runs g.M.Machine.state plan before call c.requires.resting.0 c.in_ok-machine.machine got.0 room c.requires.fits c.run-left.result.0 c.run-left.result.1 of_run leaves
@@ -44,7 +44,7 @@ returns-clause-resting g c =
     let room : length (own_of before).calls < size_of plan (own_of before).number = subst (λ (n : ℕ). length (own_of before).calls < size_of plan n) (sym c.requires.number.0) c.requires.room in
     let may = may_run g.M.Machine.runs g.M.Machine.state plan before call c.requires.resting.0 c.in_ok-machine.machine got.0 room c.requires.fits in
     let leaves = leaves_here g.M.Machine.state plan c.in_ok-machine.machine c.run-left.result.0 (own_of before).number c.args.number call c.run-left.result.1 c.requires.number.0 may (c.run-left.ensures.leaves plan got.0.of_run) in
-    let of_run = c.run-left.ensures.runs plan got.0.of_run in
+    let of_run = c.run-left.ensures.runs plan got.0.of_run (subst (λ (n : ℕ). MayRun plan (g.M.Machine.state c.in_ok-machine.machine) n call) c.requires.number.0 may) in
     let rest = rests g.M.Machine.runs g.M.Machine.state plan before call c.requires.resting.0 c.in_ok-machine.machine got.0 room c.requires.fits c.run-left.result.0 c.run-left.result.1 of_run leaves
     c.give.new.seat.me.0 c.mark.new.seat.me.0 c.mark.new.seat.me.0.look
     (is_marked g.M.Machine.runs g.M.Machine.state plan before call c.requires.resting.0 c.in_ok-machine.machine got.0 room c.requires.fits c.run-left.result.0 c.run-left.result.1 of_run leaves
@@ -60,7 +60,7 @@ returns-clause-ok g c =
     let room : length (own_of before).calls < size_of plan (own_of before).number = subst (λ (n : ℕ). length (own_of before).calls < size_of plan n) (sym c.requires.number.0) c.requires.room in
     let may = may_run g.M.Machine.runs g.M.Machine.state plan before call c.requires.resting.0 c.in_ok-machine.machine got.0 room c.requires.fits in
     let leaves = leaves_here g.M.Machine.state plan c.in_ok-machine.machine c.run-left.result.0 (own_of before).number c.args.number call c.run-left.result.1 c.requires.number.0 may (c.run-left.ensures.leaves plan got.0.of_run) in
-    let of_run = c.run-left.ensures.runs plan got.0.of_run in
+    let of_run = c.run-left.ensures.runs plan got.0.of_run (subst (λ (n : ℕ). MayRun plan (g.M.Machine.state c.in_ok-machine.machine) n call) c.requires.number.0 may) in
     progresses g.M.Machine.runs g.M.Machine.state plan before call c.requires.resting.0 c.in_ok-machine.machine got.0 room c.requires.fits c.run-left.result.0 c.run-left.result.1 of_run leaves
     c.version-old.result c.grab.new.seat.me c.mark.new.seat.me c.give.new.seat.me.0 c.version-old.ensures (ap (λ me. me.0) got.1) c.mark.ensures.marked c.mark.ensures.look (ap (λ me. me.0) c.give.ensures.sight_after)
 
