@@ -11,7 +11,8 @@ use crate::run::{run_input, run_over, write_run};
 use crate::show::write_shown;
 use crate::status::Status;
 use crate::words::{Command, Verb, Words, command_of};
-use dl_core::Ground;
+use dl_coarse::Coarse;
+use dl_core::{Core, Ground};
 use dl_history::History;
 use dl_instr::instrument;
 use dl_io::{Files, Sink};
@@ -204,4 +205,22 @@ fn domlock_over<R: Threads + Wait + Sync, G: Ground, F: Files, K: Sink, T: Gate>
         Verb::Serial => domlock_still(alloc, words, files, out),
         Verb::Show => domlock_still(alloc, words, files, out),
     }
+}
+
+// What runs operations for several callers: the machine, under one turn for all of them.
+type OneTurn = Coarse<Core>;
+
+/// Does all that the program does, over files and a sink that are handed in. `run` is served here, and may wait; the gate
+/// is told of each of its steps that moved a caller. All other words are handed to `domlock_still`.
+pub fn domlock<R: Threads + Wait + Sync, F: Files, K: Sink, T: Gate>(
+    rt: &R,
+    alloc: Global,
+    words: &Words,
+    files: &mut F,
+    out: &mut K,
+    gate: &T,
+) -> Outcome
+    ensures { KeepsPromise (task_of_words words.now) (F.source files.old) (F.source files.new) (K.taken out.old) (K.taken out.new) result }
+{
+    domlock_over::<R, OneTurn, F, K, T>(rt, alloc, words, files, out, gate)
 }
