@@ -1,11 +1,13 @@
 -- Passes as they are given out at the start, and what they leave at the end.
-use Rattle.std.specs.Prelude.{◌≡◌, ◌+◌, ℕ, Some, List, length, map, slice_get}
+use Rattle.std.specs.Prelude.{◌≡◌, ◌+◌, ℕ, Some, List, All, length, map, slice_get}
 use Rattle.std.specs.List.{flat_map}
+use Rattle.std.specs.List.Sorted.{IsNonDecreasingBy}
 use Rattle.dl_ir.specs.declared.answers.Entry.{Entry}
+use Rattle.dl_ir.specs.declared.answers.Refusal.{Refusal}
 use Rattle.dl_ir.specs.declared.calls.Call.{Call}
 use Rattle.dl_ir.specs.declared.closed.Closed.{Closed}
 use Rattle.dl_ir.specs.Heap.{hidden_count}
-use Rattle.dl_shape.specs.Pool.{IsLawfulPool}
+use Rattle.dl_shape.specs.Pool.{IsLawfulPool, HasVersionsOfMovesAlone}
 use Rattle.dl_shape.specs.Replay.{replayed, IsLegal}
 use Rattle.dl_shape.specs.Rising.{in_rising}
 use Rattle.dl_core.specs.Heaps.{plain}
@@ -38,10 +40,18 @@ pub record EndsOn (plan : Plan) (views : List PassView) (closed : Closed) : Type
   pub heap : closed.heap.objects ≡ plain core.world.heap
   pub free : closed.free ≡ core.pool.free
 
--- merged, what is left is legal and lawful over the calls, the heap is the replayed one, and the places that hold no object are free
+-- there is a list of refusals for each caller, in order of index
+abbrev pub AreOfCallers : List (List Refusal) → Type 0
+AreOfCallers lists = (at : ℕ) (list : List Refusal) → slice_get lists at ≡ Some list
+    → All (λ (refusal : Refusal). refusal.caller ≡ at + 1) list × IsNonDecreasingBy (λ (refusal : Refusal). refusal.index) list
+
+-- merged, what is left is legal and lawful over the calls, and an entry has no version but those of its moves; the refusals are those of
+-- each caller in order; the heap is the replayed one, and the places that hold no object are free
 pub record IsLawfulEnd (plan : Plan) (calls : List (List Call)) (closed : Closed) : Type 0 where
   pub legal : IsLegal (source_of plan) calls plan.heap (history_left closed)
   pub pool : IsLawfulPool plan.places (source_of plan) calls plan.heap (history_left closed) (all_of closed.refusals)
+  pub versions : All (HasVersionsOfMovesAlone (source_of plan) calls) (history_left closed)
+  pub refusals : AreOfCallers closed.refusals
   pub heap : closed.heap.objects ≡ replayed (source_of plan) calls plan.heap (history_left closed)
   pub free : closed.free + hidden_count closed.heap.objects ≡ plan.places
 

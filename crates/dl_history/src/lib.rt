@@ -11,6 +11,6 @@ mod pool;
 mod reports;
 
 pub use histories::History;
-pub use merging::{MergeRoom, merge};
+pub use merging::{MergeRoom, gather, merge};
 pub use operations::call_of;
 pub use reports::write_report;

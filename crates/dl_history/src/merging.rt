@@ -75,25 +75,25 @@ pub fn merge(source: &Module, files: &[Calls], closed: &Closed, room: MergeRoom)
     History::of_parts(entries, moves, order)
 }
 
-// Puts the entries of each list behind those that are there.
-fn gather(lists: &[Items<Entry>], entries: &mut Vec<Entry>)
-    requires { vec_len entries.old + length (joined lists.now) ≤ vec_capacity entries.old }
-    ensures { entries.new.items ≡ entries.old.items ++ joined lists.now }
+/// Puts the elements of each list behind those that are there. It takes no memory.
+pub fn gather<T: Copy>(lists: &[Items<T>], all: &mut Vec<T>)
+    requires { vec_len all.old + length (joined lists.now) ≤ vec_capacity all.old }
+    ensures { all.new.items ≡ all.old.items ++ joined lists.now }
 {
     'lists: for list in lists {
-        gather_list(list.as_slice(), entries);
+        gather_list(list.as_slice(), all);
     }
 }
 
-// Puts the entries of a list behind those that are there.
-fn gather_list(list: &[Entry], entries: &mut Vec<Entry>)
-    requires { vec_len entries.old + length list.now ≤ vec_capacity entries.old }
-    ensures added { entries.new.items ≡ entries.old.items ++ list.now }
-    ensures len { vec_len entries.new ≡ vec_len entries.old + length list.now }
-    ensures capacity { vec_capacity entries.new ≡ vec_capacity entries.old }
+// Puts the elements of a list behind those that are there.
+fn gather_list<T: Copy>(list: &[T], all: &mut Vec<T>)
+    requires { vec_len all.old + length list.now ≤ vec_capacity all.old }
+    ensures added { all.new.items ≡ all.old.items ++ list.now }
+    ensures len { vec_len all.new ≡ vec_len all.old + length list.now }
+    ensures capacity { vec_capacity all.new ≡ vec_capacity all.old }
 {
-    'entries: for entry in list {
-        entries.push_reserved(*entry);
+    'items: for item in list {
+        all.push_reserved(*item);
     }
 }
 

@@ -57,11 +57,11 @@ Fits a b = a.caller ≡ b.caller → IsBefore a b ⊎ IsBefore b a
 abbrev Stands : Entry → Entry → Type 0
 Stands a b = (a.ticket ≤ b.ticket) × (a.caller ≡ b.caller → a.index < b.index)
 
-abbrev Pairwise : {X : Type 0} → (X → X → Type 0) → List X → Type 0
+abbrev pub Pairwise : {X : Type 0} → (X → X → Type 0) → List X → Type 0
 Pairwise R [] = Unit {0}
 Pairwise R (x ∷ xs) = All (R x) xs × Pairwise R xs
 
-pairs : {X : Type 0} (R : X → X → Type 0) (xs : List X) → Pairwise R xs → AllPairs R xs
+pub pairs : {X : Type 0} (R : X → X → Type 0) (xs : List X) → Pairwise R xs → AllPairs R xs
 pairs R [] h = λ i j d before within. absurd (omega arith)
 pairs R (x ∷ xs) h = AllPairs-cons R x xs h.0 (pairs R xs h.1)
 
@@ -71,7 +71,11 @@ tail_pairs R x xs h = λ i j d before within. h (suc i) (suc j) d (omega arith) 
 head_pairs : {X : Type 0} (R : X → X → Type 0) (x : X) (xs : List X) → AllPairs R (x ∷ xs) → All (R x) xs
 head_pairs R x xs h = λ i d within. h 0 (suc i) d (omega arith) (omega arith)
 
-append_pairs : {X : Type 0} (R : X → X → Type 0) (xs ys : List X) → Pairwise R xs → Pairwise R ys → All (λ x. All (R x) ys) xs → Pairwise R (xs ++ ys)
+pub from_pairs : {X : Type 0} (R : X → X → Type 0) (xs : List X) → AllPairs R xs → Pairwise R xs
+from_pairs R [] h = tt
+from_pairs R (x ∷ xs) h = (head_pairs R x xs h, from_pairs R xs (tail_pairs R x xs h))
+
+pub append_pairs : {X : Type 0} (R : X → X → Type 0) (xs ys : List X) → Pairwise R xs → Pairwise R ys → All (λ x. All (R x) ys) xs → Pairwise R (xs ++ ys)
 append_pairs R [] ys hx hy across = hy
 append_pairs R (x ∷ xs) ys hx hy across =
     (All-append (R x) xs ys hx.0 (All-head (λ z. All (R z) ys) x xs across), append_pairs R xs ys hx.1 hy (All-tail (λ z. All (R z) ys) x xs across))

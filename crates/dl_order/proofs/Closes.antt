@@ -1,23 +1,26 @@
 -- What is left of a run that is closed when no pass has a call in hand.
 use Rattle.std.proofs.Common.{◌≡◌, ℕ, zero, suc, ◌+◌, ◌<◌, List, [], ◌∷◌, ◌++◌, map, length, Some, refl, sym, ap, ap₂, subst, ◌∙◌, arith, inl, inr}
-use Rattle.std.specs.Prelude.{slice_get}
+use Rattle.std.specs.Prelude.{All, slice_get}
 use Rattle.std.specs.List.{flat_map, zip}
+use Rattle.std.specs.List.Sorted.{IsNonDecreasingBy}
 use Rattle.std.proofs.lemmas.Bool.{cases_lt}
 use Rattle.std.proofs.lemmas.List.{length-map}
 use Rattle.dl_ir.specs.declared.answers.Entry.{Entry}
+use Rattle.dl_ir.specs.declared.answers.Refusal.{Refusal}
 use Rattle.dl_ir.specs.declared.calls.Call.{Call}
 use Rattle.dl_ir.specs.declared.closed.Closed.{Closed}
 use Rattle.dl_ir.specs.Heap.{Objects, hidden_count}
-use Rattle.dl_shape.specs.Pool.{IsLawfulPool}
+use Rattle.dl_shape.specs.Pool.{IsLawfulPool, HasVersionsOfMovesAlone}
 use Rattle.dl_shape.specs.Replay.{replayed, IsLegal}
 use Rattle.dl_shape.specs.Rising.{in_rising}
 use Rattle.dl_core.specs.Plans.{Plan, IsPlan, source_of}
 use Rattle.dl_core.specs.Frames.{Frame}
 use Rattle.dl_core.specs.Core.{Account, frame_of, entry_of, entries_of, refusals_of}
 use Rattle.dl_core.specs.Passes.{PassView, entries_in, refusals_in}
-use Rattle.dl_core.specs.Closing.{EndsOn, IsLawfulEnd, AreDone, all_of, begun_on, history_left}
+use Rattle.dl_core.specs.Closing.{EndsOn, IsLawfulEnd, AreDone, AreOfCallers, all_of, begun_on, history_left}
 use Rattle.dl_core.specs.Sound.{IsSound, numbers_from}
 use Rattle.dl_core.proofs.LawfulAlways.{lawful_always}
+use Rattle.dl_core.proofs.Names.{same_some}
 use Rattle.dl_order.specs.Ends.{IsRunOver, RunsClose, history_in, all_refusals}
 use Rattle.dl_core.specs.Machines.{AreAllIdle}
 use Rattle.dl_order.proofs.Ends.{runs_end}
@@ -39,6 +42,12 @@ pieces f g first [] same = refl
 pieces f g first (view ∷ views) same =
     ap₂ (λ xs ys. xs ++ ys) (let here : first + 0 ≡ first = omega arith in same 0 view refl ∙ ap g here)
     (pieces f g (first + 1) views (λ at other there. let later : first + suc at ≡ first + 1 + at = omega arith in same (suc at) other there ∙ ap g later))
+
+-- what stands in the image of a list is the image of what stands there
+in_map : {X Y : Type 0} (f : X → Y) (xs : List X) (at : ℕ) (y : Y) → slice_get (map f xs) at ≡ Some y → (x : X) × (slice_get xs at ≡ Some x) × (f x ≡ y)
+in_map f [] at y there = absurd (cc)
+in_map f (x ∷ xs) zero y there = (x, refl, same_some there)
+in_map f (x ∷ xs) (suc at) y there = in_map f xs at y there
 
 module _ (plan : Plan) (views : List PassView) (closed : Closed) (is : IsPlan plan) (done : AreDone views) (on : EndsOn plan views closed) where
   abbrev calls : List (List Call)
@@ -85,11 +94,22 @@ module _ (plan : Plan) (views : List PassView) (closed : Closed) (is : IsPlan pl
   refused_same : all_of closed.refusals ≡ all_refusals plan on.core
   refused_same = ap all_of on.refusals ∙ pieces refusals_in (refusals_of on.core) 1 views refusals_same ∙ ap (λ n. flat_map (refusals_of on.core) (numbers_from 1 n)) many
 
+  -- each caller's refusals are those that its pass kept
+  by_callers : AreOfCallers closed.refusals
+  by_callers at list there =
+      let view = in_map refusals_in views at list (ap (λ (lists : List (List Refusal)). slice_get lists at) (sym on.refusals) ∙ there) in
+      let own : refusals_of on.core (1 + at) ≡ list = sym (refusals_same at view.0 view.1) ∙ view.2 in
+      let number : 1 + at ≡ at + 1 = omega arith in
+      subst (λ (caller : ℕ). All (λ (refusal : Refusal). refusal.caller ≡ caller) list × IsNonDecreasingBy (λ (refusal : Refusal). refusal.index) list) number
+      (subst (λ (refusals : List Refusal). All (λ (refusal : Refusal). refusal.caller ≡ 1 + at) refusals × IsNonDecreasingBy (λ (refusal : Refusal). refusal.index) refusals) own (run.refusals (1 + at)))
+
   lawful_end : IsLawfulEnd plan calls closed
   lawful_end = record {
     legal = subst (IsLegal (source_of plan) calls plan.heap) (sym history_same) run.legal;
     pool = subst (λ (history : List Entry). IsLawfulPool plan.places (source_of plan) calls plan.heap history (all_of closed.refusals)) (sym history_same)
         (subst (IsLawfulPool plan.places (source_of plan) calls plan.heap (history_in plan on.core)) (sym refused_same) run.pool);
+    versions = subst (All (HasVersionsOfMovesAlone (source_of plan) calls)) (sym history_same) run.versions;
+    refusals = by_callers;
     heap = on.heap ∙ run.heap ∙ ap (replayed (source_of plan) calls plan.heap) (sym history_same);
     free = ap₂ (λ (free : ℕ) (heap : Objects). free + hidden_count heap) on.free on.heap ∙ run.free;
   }

@@ -24,7 +24,7 @@ use Rattle.dl_ir.specs.CallForms.{AreCallsOf}
 use Rattle.dl_closed.specs.Unsealed.{IsUnsealed}
 use Rattle.dl_closed.proofs.Histories.{never_seals}
 use Rattle.dl_shape.specs.Closed.{IsForestClosed}
-use Rattle.dl_shape.specs.Pool.{ReturnsFit, IsLawfulPool, IsDue, allocs_at, moves_of, moves_of_entry, versions_of, free_at}
+use Rattle.dl_shape.specs.Pool.{ReturnsFit, IsLawfulPool, HasVersionsOfMovesAlone, IsDue, allocs_at, moves_of, moves_of_entry, versions_of, free_at}
 use Rattle.dl_shape.specs.Replay.{after_call, replayed, IsLegal, IsLegalFrom}
 use Rattle.dl_shape.specs.Rising.{in_rising}
 use Rattle.dl_shape.specs.Startable.{IsSettled}
@@ -54,6 +54,7 @@ use Rattle.dl_order.proofs.Orders.{IsInOrder, IsRefusalOf, all_in_order}
 use Rattle.dl_order.proofs.Pieces.{no_last, map_pieces, pieces_of_pieces, rising_changed, in_piece, in_rising_in, each_pieces, pairs_in, rise_together, count_none, none_there, one_there, tally, tally_pieces, tally_rising, change_up_to, fold_tally}
 use Rattle.dl_order.proofs.Serial.{IsReplayOf}
 use Rattle.dl_order.proofs.Unsealed.{calls_fit}
+use Rattle.dl_order.proofs.Versions.{IsAlone, all_alone, alone_versions}
 use Rattle.dl_order.proofs.Worlds.{stands_of, idle_rests}
 
 -- ---- entries without their versions
@@ -413,6 +414,10 @@ module _ (plan : Plan) (is : IsPlan plan) (core : Core) (calls : Calls) (reached
         (in_contains r (refusals_of core e.caller) (subst (λ c. In r (refusals_of core c)) (sym same) (refused_by r (contains_in r (all_refusals plan core) inr)))) less;
   }
 
+  versions : All (HasVersionsOfMovesAlone source calls) (history_in plan core)
+  versions = each_all (HasVersionsOfMovesAlone source calls) (history_in plan core) (each_of (HasVersionsOfMovesAlone source calls) (history_in plan core) (λ entry there.
+      alone_versions plan calls entry.caller entry (each_in (IsAlone plan calls entry.caller) entry (entries_of core entry.caller) (all_alone plan is core calls reached entry.caller) (of_caller entry there).0)))
+
   -- ---- the heap
 
   free : core.pool.free + hidden_count (plain core.world.heap) ≡ plan.places
@@ -459,7 +464,7 @@ module _ (plan : Plan) (is : IsPlan plan) (core : Core) (calls : Calls) (reached
   unsealed closed = never_seals source calls plan.heap (history_in plan core) all_of_module closed legal
 
   is_run : IsRunOver plan core calls
-  is_run = record { covers = covers; legal = legal; pool = pool; unsealed = unsealed; refusals = refusals_stand; heap = heap_is; free = free; left = (sound.heap, settled) }
+  is_run = record { covers = covers; legal = legal; pool = pool; versions = versions; unsealed = unsealed; refusals = refusals_stand; heap = heap_is; free = free; left = (sound.heap, settled) }
 
 pub runs_end : RunsEnd
 runs_end plan core calls is reached resting = is_run plan is core calls reached resting

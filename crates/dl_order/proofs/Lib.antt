@@ -11,6 +11,7 @@ pub mod Measure
 pub mod Unsealed
 pub mod Orders
 pub mod Pieces
+pub mod Versions
 pub mod Ends
 pub mod Progress
 pub mod Falls

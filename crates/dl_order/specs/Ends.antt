@@ -8,7 +8,7 @@ use Rattle.dl_ir.specs.declared.closed.Closed.{Closed}
 use Rattle.dl_ir.specs.Cover.{Covers}
 use Rattle.dl_ir.specs.Heap.{IsHeapOf, hidden_count}
 use Rattle.dl_shape.specs.Closed.{IsForestClosed}
-use Rattle.dl_shape.specs.Pool.{IsLawfulPool}
+use Rattle.dl_shape.specs.Pool.{IsLawfulPool, HasVersionsOfMovesAlone}
 use Rattle.dl_shape.specs.Replay.{replayed, IsLegal}
 use Rattle.dl_shape.specs.Rising.{in_rising}
 use Rattle.dl_shape.specs.Startable.{IsSettled}
@@ -31,13 +31,14 @@ abbrev pub all_refusals : Plan → Core → List Refusal
 all_refusals plan core = flat_map (refusals_of core) (callers_of plan)
 
 -- the calls begun were run: each stands once, in the history or among the refusals; each answer is that of the serial meaning; the pool
--- is lawful; where serial runs end in forests no answer tells of a sealed object; each caller's refusals stand in order of index; the
+-- is lawful, and an entry has no version but those of its moves; where serial runs end in forests no answer tells of a sealed object; each caller's refusals stand in order of index; the
 -- heap is that of the replay, and what is not free of the places is in it; and it is a settled heap of the module, from which another run
 -- may start where its names keep their limits
 pub record IsRunOver (plan : Plan) (core : Core) (calls : Calls) : Type 0 where
   pub covers : Covers calls (history_in plan core) (all_refusals plan core)
   pub legal : IsLegal (source_of plan) calls plan.heap (history_in plan core)
   pub pool : IsLawfulPool plan.places (source_of plan) calls plan.heap (history_in plan core) (all_refusals plan core)
+  pub versions : All (HasVersionsOfMovesAlone (source_of plan) calls) (history_in plan core)
   pub unsealed : IsForestClosed (source_of plan) plan.heap → All (λ (entry : Entry). IsUnsealed entry.answer) (history_in plan core)
   pub refusals : (caller : ℕ) → All (λ (refusal : Refusal). refusal.caller ≡ caller) (refusals_of core caller) × IsNonDecreasingBy (λ (refusal : Refusal). refusal.index) (refusals_of core caller)
   pub heap : plain core.world.heap ≡ replayed (source_of plan) calls plan.heap (history_in plan core)

@@ -1,5 +1,5 @@
 -- How a call ends, clause by clause.
-use Rattle.std.proofs.Common.{◌≡◌, ◌≢◌, ℕ, ◌+◌, ◌<◌, ◌≤◌, List, [], ◌⊎◌, inl, inr, Some, None, refl, sym, ◌∙◌, subst, arith}
+use Rattle.std.proofs.Common.{◌≡◌, ◌≢◌, ℕ, ◌+◌, ◌<◌, ◌≤◌, List, [], ◌⊎◌, inl, inr, Option, Some, None, refl, sym, ◌∙◌, subst, arith}
 use Rattle.dl_io.specs.Source.{Source}
 use Rattle.dl_io.specs.Taken.{Taken, Took}
 use Rattle.dl_history.specs.Histories.{Seen}
@@ -13,7 +13,7 @@ use Rattle.domlock.specs.Causes.{NoModule, NoCalls, Refuses, Cut}
 use Rattle.domlock.specs.Promise.{Ran, Finishes, Ends, Prints, nothing_done}
 use Rattle.domlock.specs.Reading.{IsUnread, ReadCause, IsWithin}
 use Rattle.domlock.specs.Texts.{Spells}
-use Rattle.domlock.specs.Words.{IsGood, Text, Task, limit_of, status_of, task_of_words}
+use Rattle.domlock.specs.Words.{IsGood, Text, Task, limit_of, status_of}
 use Rattle.domlock.specs.declared.words.WordsFault.{WordsFault}
 use Rattle.domlock.specs.declared.words.WordsFault.TheVariants as faults
 
@@ -120,72 +120,72 @@ refused_most {new = new} file (Refuses.no_calls tree source before at path sourc
 refused_most {new = new} file (Refuses.no_memory e within) is = within_most new file within is
 
 -- a call of which the files were read ends as its command finishes
-pub ends_finished : {words : List Text} {old new : Source} {before after : Taken} {status : Status} {history : Seen} {refusals : List Refusal}
-    (task : Task) {tree : Tree} {source : Module} {all : List (List Call)} → task_of_words words ≡ Some task → Spells old task tree source all → IsWithin new →
-    Finishes task.verb tree source all task.places before after status history refusals → Ends words old new before after status history refusals
+pub ends_finished : {given : Option Task} {old new : Source} {before after : Taken} {status : Status} {history : Seen} {refusals : List Refusal}
+    (task : Task) {tree : Tree} {source : Module} {all : List (List Call)} → given ≡ Some task → Spells old task tree source all → IsWithin new →
+    Finishes task.verb tree source all task.places before after status history refusals → Ends given old new before after status history refusals
 ends_finished task is_task spells within (Finishes.no_memory is same_taken no_history no_refusals) =
     Ends.refused task is_task (Refuses.no_memory is within) same_taken no_history no_refusals
 ends_finished task {tree = tree} {source = source} {all = all} is_task spells within (Finishes.wrote text writes prints) =
     Ends.ran text (record { task = task; is_task = is_task; tree = tree; source = source; all = all; spells = spells; writes = writes }) within prints
 
 -- a call whose words give no command ends by what is amiss with them
-pub ends_without_command : {words : List Text} {old : Source} {before : Taken} {status : Status} {history : Seen} {refusals : List Refusal}
-    (fault : WordsFault) → status ≡ status_of fault → (fault ≡ faults.Usage → task_of_words words ≡ None) → history ≡ nothing_done → refusals ≡ []
-    → Ends words old old before before status history refusals
+pub ends_without_command : {given : Option Task} {old : Source} {before : Taken} {status : Status} {history : Seen} {refusals : List Refusal}
+    (fault : WordsFault) → status ≡ status_of fault → (fault ≡ faults.Usage → given ≡ None) → history ≡ nothing_done → refusals ≡ []
+    → Ends given old old before before status history refusals
 ends_without_command faults.Usage is none no_history no_refusals = Ends.usage is (none refl) refl refl no_history no_refusals
 ends_without_command faults.Memory is none no_history no_refusals = Ends.unread is refl refl no_history no_refusals
 
 -- the clauses of a call that ends so
-module _ {words : List Text} {old new : Source} {before after : Taken} {status : Status} {history : Seen} {refusals : List Refusal} where
-  pub ends_done : Ends words old new before after status history refusals → status ≡ statuses.Done →
-      (text : Text) × Ran words old history refusals text × Took before.written after.written text
+module _ {given : Option Task} {old new : Source} {before after : Taken} {status : Status} {history : Seen} {refusals : List Refusal} where
+  pub ends_done : Ends given old new before after status history refusals → status ≡ statuses.Done →
+      (text : Text) × Ran given old history refusals text × Took before.written after.written text
   ends_done (Ends.usage is none same same_taken no_history no_refusals) done = let e : statuses.Usage ≡ statuses.Done = sym is ∙ done in absurd (cc)
   ends_done (Ends.unread is same same_taken no_history no_refusals) done = let e : statuses.Memory ≡ statuses.Done = sym is ∙ done in absurd (cc)
   ends_done (Ends.refused task is_task cause same_taken no_history no_refusals) done = absurd (subst IsRefusal done (refuses cause))
   ends_done (Ends.ran text ran within prints) done = (text, ran, subst (λ s. Prints s text before after) done prints)
 
-  pub ends_cut : Ends words old new before after status history refusals → status ≡ statuses.WriteFault →
-      (text : Text) × Ran words old history refusals text × Cut text before after
+  pub ends_cut : Ends given old new before after status history refusals → status ≡ statuses.WriteFault →
+      (text : Text) × Ran given old history refusals text × Cut text before after
   ends_cut (Ends.usage is none same same_taken no_history no_refusals) fault = let e : statuses.Usage ≡ statuses.WriteFault = sym is ∙ fault in absurd (cc)
   ends_cut (Ends.unread is same same_taken no_history no_refusals) fault = let e : statuses.Memory ≡ statuses.WriteFault = sym is ∙ fault in absurd (cc)
   ends_cut (Ends.refused task is_task cause same_taken no_history no_refusals) fault = absurd (subst IsRefusal fault (refuses cause))
   ends_cut (Ends.ran text ran within prints) fault = (text, ran, subst (λ s. Prints s text before after) fault prints)
 
-  pub ends_nothing : Ends words old new before after status history refusals → status ≢ statuses.Done → status ≢ statuses.WriteFault →
+  pub ends_nothing : Ends given old new before after status history refusals → status ≢ statuses.Done → status ≢ statuses.WriteFault →
       (after ≡ before) × (history ≡ nothing_done) × (refusals ≡ [])
   ends_nothing (Ends.usage is none same same_taken no_history no_refusals) no_done no_fault = (same_taken, no_history, no_refusals)
   ends_nothing (Ends.unread is same same_taken no_history no_refusals) no_done no_fault = (same_taken, no_history, no_refusals)
   ends_nothing (Ends.refused task is_task cause same_taken no_history no_refusals) no_done no_fault = (same_taken, no_history, no_refusals)
   ends_nothing (Ends.ran text ran within prints) no_done no_fault = printed status text before after prints no_done no_fault
 
-  pub ends_usage : Ends words old new before after status history refusals → status ≡ statuses.Usage → ¬ IsGood words
+  pub ends_usage : Ends given old new before after status history refusals → status ≡ statuses.Usage → ¬ IsGood given
   ends_usage (Ends.usage is none same same_taken no_history no_refusals) usage good = let task = good.1 in cc
   ends_usage (Ends.unread is same same_taken no_history no_refusals) usage good = let e : statuses.Memory ≡ statuses.Usage = sym is ∙ usage in absurd (cc)
   ends_usage (Ends.refused task is_task cause same_taken no_history no_refusals) usage good = absurd (subst IsRefusal usage (refuses cause))
   ends_usage (Ends.ran text ran within prints) usage good = absurd (subst (λ s. Prints s text before after) usage prints)
 
-  pub ends_bad_words : Ends words old new before after status history refusals → ¬ IsGood words →
+  pub ends_bad_words : Ends given old new before after status history refusals → ¬ IsGood given →
       ((status ≡ statuses.Usage) ⊎ (status ≡ statuses.Memory)) × (new ≡ old)
   ends_bad_words (Ends.usage is none same same_taken no_history no_refusals) bad = (inl is, same)
   ends_bad_words (Ends.unread is same same_taken no_history no_refusals) bad = (inr is, same)
   ends_bad_words (Ends.refused task is_task cause same_taken no_history no_refusals) bad = absurd (bad (task, is_task))
   ends_bad_words (Ends.ran text ran within prints) bad = absurd (bad (ran.task, ran.is_task))
 
-  pub ends_cause : Ends words old new before after status history refusals → status ≢ statuses.Done → status ≢ statuses.WriteFault → status ≢ statuses.Usage →
-      status ≢ statuses.Memory → (task : Task) × (task_of_words words ≡ Some task) × Refuses task old new status
+  pub ends_cause : Ends given old new before after status history refusals → status ≢ statuses.Done → status ≢ statuses.WriteFault → status ≢ statuses.Usage →
+      status ≢ statuses.Memory → (task : Task) × (given ≡ Some task) × Refuses task old new status
   ends_cause (Ends.usage is none same same_taken no_history no_refusals) no_done no_fault no_usage no_want = absurd (no_usage is)
   ends_cause (Ends.unread is same same_taken no_history no_refusals) no_done no_fault no_usage no_want = absurd (no_want is)
   ends_cause (Ends.refused task is_task cause same_taken no_history no_refusals) no_done no_fault no_usage no_want = (task, is_task, cause)
   ends_cause (Ends.ran text ran within prints) no_done no_fault no_usage no_want = printed status text before after prints no_done no_fault
 
-  pub ends_long : Ends words old new before after status history refusals → IsGood words → (file : ℕ) → new.attached ≡ Some file →
+  pub ends_long : Ends given old new before after status history refusals → IsGood given → (file : ℕ) → new.attached ≡ Some file →
       limit_of file < new.given → (status ≡ statuses.TooLong file) ⊎ IsUnread old new status
   ends_long (Ends.usage is none same same_taken no_history no_refusals) good file attached more = let task = good.1 in absurd (cc)
   ends_long (Ends.unread is same same_taken no_history no_refusals) good file attached more = inr (is, same)
   ends_long (Ends.refused task is_task cause same_taken no_history no_refusals) good file attached more = inl (refused_long file cause attached more)
   ends_long (Ends.ran text ran within prints) good file attached more = within_long new file within attached more
 
-  pub ends_most : Ends words old new before after status history refusals → IsGood words → (file : ℕ) → new.attached ≡ Some file →
+  pub ends_most : Ends given old new before after status history refusals → IsGood given → (file : ℕ) → new.attached ≡ Some file →
       (new.given ≤ limit_of file + 1) ⊎ IsUnread old new status
   ends_most (Ends.usage is none same same_taken no_history no_refusals) good file attached = let task = good.1 in absurd (cc)
   ends_most (Ends.unread is same same_taken no_history no_refusals) good file attached = inr (is, same)

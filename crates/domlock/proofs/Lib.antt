@@ -9,3 +9,7 @@ mod ToldLemmas
 mod OrderLemmas
 mod WordLemmas
 mod WritingEnds
+mod CountLemmas
+mod PlanLemmas
+mod OverLemmas
+mod PromiseLemmas

@@ -1,5 +1,5 @@
 -- The order of refusals, and what is done where nothing calls for one.
-use Rattle.std.proofs.Common.{◌≡◌, ℕ, suc, ◌+◌, ◌<◌, ◌≤◌, List, ◌∷◌, Some, take, refl, sym, subst, arith, add-one, ◌⊎◌, inl, inr}
+use Rattle.std.proofs.Common.{◌≡◌, ℕ, suc, ◌+◌, ◌<◌, ◌≤◌, List, ◌∷◌, Option, Some, take, refl, sym, subst, arith, add-one, ◌⊎◌, inl, inr}
 use Rattle.std.specs.Prelude.{All, Contains, slice_get}
 use Rattle.std.proofs.lemmas.Bool.{cases_lt}
 use Rattle.std.proofs.lemmas.List.Elements.{All-head}
@@ -18,7 +18,7 @@ use Rattle.domlock.specs.Causes.{NoCalls, Refuses}
 use Rattle.domlock.specs.Promise.{Ends, Prints}
 use Rattle.domlock.specs.Texts.{AreFiles, Spells}
 use Rattle.domlock.specs.Told.{TellsCalls, RefusesCalls, CallsFor, EndsWith, EndsAsTold, IsInOrder}
-use Rattle.domlock.specs.Words.{Text, Task, task_of_words}
+use Rattle.domlock.specs.Words.{Text, Task}
 use Rattle.domlock.proofs.ToldLemmas.{Untaken, module_untaken, calls_untaken, module_refused, calls_refused, module_not_taken, calls_not_taken, told_source, file_at, get_take}
 
 -- a file up to this one could not be read, or there was no memory
@@ -125,8 +125,8 @@ printed_whole (statuses.ModuleFault line why) text before after prints works = a
 printed_whole (statuses.OpsFault file line why) text before after prints works = absurd prints
 printed_whole statuses.Memory text before after prints works = absurd prints
 
-module _ {words : List Text} {old new : Source} {before after : Taken} {status : Status} {history : Seen} {refusals : List Refusal} where
-  pub ends_as_told : Ends words old new before after status history refusals → (task : Task) → task_of_words words ≡ Some task → EndsAsTold old task status
+module _ {given : Option Task} {old new : Source} {before after : Taken} {status : Status} {history : Seen} {refusals : List Refusal} where
+  pub ends_as_told : Ends given old new before after status history refusals → (task : Task) → given ≡ Some task → EndsAsTold old task status
   ends_as_told (Ends.usage is none same same_taken no_history no_refusals) task is_task file answer calls = absurd (cc)
   ends_as_told (Ends.unread is same same_taken no_history no_refusals) task is_task file answer calls = EndsWith.no_memory is
   ends_as_told (Ends.refused found is_found cause same_taken no_history no_refusals) task is_task file answer calls =
@@ -137,7 +137,7 @@ module _ {words : List Text} {old new : Source} {before after : Taken} {status :
       let same : ran.task ≡ task = cc in
       none_called (subst (λ t. Spells old t ran.tree ran.source ran.all) same ran.spells) calls
 
-  pub ends_complete : Ends words old new before after status history refusals → (task : Task) → task_of_words words ≡ Some task → IsInOrder old task →
+  pub ends_complete : Ends given old new before after status history refusals → (task : Task) → given ≡ Some task → IsInOrder old task →
       (Rose before.faults after.faults → ⊥) → (status ≡ statuses.Done) ⊎ (status ≡ statuses.Memory)
   ends_complete (Ends.usage is none same same_taken no_history no_refusals) task is_task order works = absurd (cc)
   ends_complete (Ends.unread is same same_taken no_history no_refusals) task is_task order works = inr is

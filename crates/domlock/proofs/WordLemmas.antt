@@ -284,37 +284,54 @@ by_row line row task given = go (nat_lt (length line.rest) row.fewest) refl (nat
         let is : made line row ≡ task = ap (λ o. unwrap_or o (made line row)) same in
         subst (IsBy line row) is (ltb-false _ _ few, ltb-false _ _ many, refl, refl)
 
--- what the table asks for
+-- what the table asks for of the number of words REST
+pub record Asks (task : Task) : Type 0 where
+  pub one : task.verb ≡ verbs.Serial → length task.rest ≡ 1
+  pub some : task.verb ≡ verbs.Run → 1 ≤ length task.rest
+  pub few : length task.rest ≤ 64
+
 table_asks : (line : Line) (task : Task) → task_of_line line ≡ Some task
-    → (task.verb ≡ verbs.Serial → length task.rest ≡ 1) × (length task.rest ≤ 64) × (task.places ≡ line.places)
-table_asks line task given = go (bytes_eq (codes "serial") line.command) refl (bytes_eq (codes "show") line.command) refl
+    → Asks task × (task.places ≡ line.places)
+table_asks line task given = go (bytes_eq (codes "serial") line.command) refl (bytes_eq (codes "run") line.command) refl (bytes_eq (codes "show") line.command) refl
   where
-    go : (a : Bool) → bytes_eq (codes "serial") line.command ≡ a → (b : Bool) → bytes_eq (codes "show") line.command ≡ b
-        → (task.verb ≡ verbs.Serial → length task.rest ≡ 1) × (length task.rest ≤ 64) × (task.places ≡ line.places)
-    go true serial b show =
+    go : (a : Bool) → bytes_eq (codes "serial") line.command ≡ a → (r : Bool) → bytes_eq (codes "run") line.command ≡ r → (b : Bool) → bytes_eq (codes "show") line.command ≡ b
+        → Asks task × (task.places ≡ line.places)
+    go true serial r run b show =
         let by : task_by line (record { verb = verbs.Serial; fewest = 1; most = 1 }) ≡ Some task = rw serial at given in
         let asks = by_row line _ task by in
         let fewest = asks.0 in
         let most = asks.1 in
-        ((λ e. omega (arith, fewest, most)), omega (arith, most), asks.3)
-    go false serial true show =
-        let by : task_by line (record { verb = verbs.Show; fewest = 0; most = 0 }) ≡ Some task = rw (serial, show) at given in
+        (record { one = λ e. omega (arith, fewest, most); some = λ e. omega (arith, fewest); few = omega (arith, most) }, asks.3)
+    go false serial true run b show =
+        let by : task_by line (record { verb = verbs.Run; fewest = 1; most = 64 }) ≡ Some task = rw (serial, run) at given in
         let asks = by_row line _ task by in
+        let fewest = asks.0 in
         let most = asks.1 in
-        ((λ e. let bad : verbs.Show ≡ verbs.Serial = sym asks.2 ∙ e in absurd (cc)), omega (arith, most), asks.3)
-    go false serial false show = let none : None ≡ Some task = rw (serial, show) at given in absurd (cc)
+        (record { one = λ e. let bad : verbs.Run ≡ verbs.Serial = sym asks.2 ∙ e in absurd (cc); some = λ e. omega (arith, fewest); few = omega (arith, most) }, asks.3)
+    go false serial false run true show =
+        let by : task_by line (record { verb = verbs.Show; fewest = 0; most = 0 }) ≡ Some task = rw (serial, run, show) at given in
+        let asks = by_row line _ task by in
+        let most = asks.1 in (
+          record {
+            one = λ e. let bad : verbs.Show ≡ verbs.Serial = sym asks.2 ∙ e in absurd (cc);
+            some = λ e. let bad : verbs.Show ≡ verbs.Run = sym asks.2 ∙ e in absurd (cc);
+            few = omega (arith, most);
+          },
+          asks.3,
+        )
+    go false serial false run false show = let none : None ≡ Some task = rw (serial, run, show) at given in absurd (cc)
 
 -- what is asked of the command that the matches give
 pub command_asks : (rows : List Row) (task : Task) → task_of_matches rows ≡ Some task
-    → (task.verb ≡ verbs.Serial → length task.rest ≡ 1) × (length task.rest ≤ 64) × (option_and_then number_of (one_of (codes "places") rows) ≡ Some task.places)
+    → Asks task × (option_and_then number_of (one_of (codes "places") rows) ≡ Some task.places)
 command_asks rows task given = go (line_of_matches rows) refl given
   where
     go : (o : Option Line) → line_of_matches rows ≡ o → option_and_then task_of_line o ≡ Some task
-        → (task.verb ≡ verbs.Serial → length task.rest ≡ 1) × (length task.rest ≤ 64) × (option_and_then number_of (one_of (codes "places") rows) ≡ Some task.places)
+        → Asks task × (option_and_then number_of (one_of (codes "places") rows) ≡ Some task.places)
     go None e h = let none : None ≡ Some task = h in absurd (cc)
     go (Some line) e h =
         let asks = table_asks line task h in
-        (asks.0, asks.1, line_number rows line e ∙ ap (λ n. Some n) (sym asks.2))
+        (asks.0, line_number rows line e ∙ ap (λ n. Some n) (sym asks.1))
 
 -- what holds of the command that was read
 module _ (result : Result Held WordsFault) where
@@ -325,15 +342,20 @@ module _ (result : Result Held WordsFault) where
     pub given_one : IfOk result (λ command. command.verb ≡ verbs.Serial → length command.rest.items ≡ 1)
     given_one = IfOk-weaker result (λ command. task_of_matches rows ≡ Some (task_of command)) (λ command. command.verb ≡ verbs.Serial → length command.rest.items ≡ 1)
         (λ command given. let asks = command_asks rows (task_of command) given in
-        λ e. sym (length-map command.rest.items (λ path. path.now)) ∙ asks.0 e) ok
+        λ e. sym (length-map command.rest.items (λ path. path.now)) ∙ asks.0.one e) ok
+
+    pub given_some : IfOk result (λ command. command.verb ≡ verbs.Run → 1 ≤ length command.rest.items)
+    given_some = IfOk-weaker result (λ command. task_of_matches rows ≡ Some (task_of command)) (λ command. command.verb ≡ verbs.Run → 1 ≤ length command.rest.items)
+        (λ command given. let asks = command_asks rows (task_of command) given in
+        λ e. subst (λ n. 1 ≤ n) (length-map command.rest.items (λ path. path.now)) (asks.0.some e)) ok
 
     pub given_few : IfOk result (λ command. length command.rest.items ≤ 64)
     given_few = IfOk-weaker result (λ command. task_of_matches rows ≡ Some (task_of command)) (λ command. length command.rest.items ≤ 64)
         (λ command given. let asks = command_asks rows (task_of command) given in
-        subst (λ n. n ≤ 64) (length-map command.rest.items (λ path. path.now)) asks.1) ok
+        subst (λ n. n ≤ 64) (length-map command.rest.items (λ path. path.now)) asks.0.few) ok
 
     pub given_places : ((n : ℕ) → option_and_then number_of (one_of (codes "places") rows) ≡ Some n → (1 ≤ n) × (n ≤ 65536))
         → IfOk result (λ command. (1 ≤ command.places) × (command.places ≤ 65536))
     given_places ranges = IfOk-weaker result (λ command. task_of_matches rows ≡ Some (task_of command)) (λ command. (1 ≤ command.places) × (command.places ≤ 65536))
         (λ command given. let asks = command_asks rows (task_of command) given in
-        ranges command.places asks.2) ok
+        ranges command.places asks.1) ok

@@ -83,10 +83,11 @@ line_of_matches rows = option_and_then (λ command. option_and_then (λ first. o
 }) (option_and_then number_of (one_of (codes "places") rows))) (first_of (codes "FIRST") rows)) (first_of (codes "COMMAND") rows)
 
 -- the table of commands, a row each: the word COMMAND, what it asks for, and how many words REST has at least and at most;
--- they are `serial MODULE OPERATIONS` and `show MODULE`
+-- they are `serial MODULE OPERATIONS`, `run MODULE OPERATIONS..` with up to 64 operation files, and `show MODULE`
 abbrev pub table : List (Text × CommandRow)
 table =
     (codes "serial", record { verb = verbs.Serial; fewest = 1; most = 1 })
+    ∷ (codes "run", record { verb = verbs.Run; fewest = 1; most = 64 })
     ∷ (codes "show", record { verb = verbs.Show; fewest = 0; most = 0 })
     ∷ []
 
@@ -118,9 +119,19 @@ unless_refused (kind ∷ kinds) task = None
 abbrev pub task_of_words : List Text → Option Task
 task_of_words words = unless_refused (fault_of command_line words) (task_of_matches (matches_of command_line words))
 
--- the words are good: the command line takes them, and they are as the table of commands says
-abbrev pub IsGood : List Text → Type 0
-IsGood words = (task : Task) × (task_of_words words ≡ Some task)
+-- words that give this are good: the command line takes them, and they are as the table of commands says
+abbrev pub IsGood : Option Task → Type 0
+IsGood given = (task : Task) × (given ≡ Some task)
+
+-- a command that needs no threads
+abbrev pub unless_run : Verb → Task → Option Task
+unless_run verbs.Run task = None
+unless_run verbs.Serial task = Some task
+unless_run verbs.Show task = Some task
+
+-- the command that the words give, where they are good and are not `run`
+abbrev pub still_task_of_words : List Text → Option Task
+still_task_of_words words = option_and_then (λ (task : Task). unless_run task.verb task) (task_of_words words)
 
 -- the status of a call whose words give no command
 abbrev pub status_of : WordsFault → Status

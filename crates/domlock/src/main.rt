@@ -17,11 +17,12 @@ mod top;
 mod words;
 
 use dl_io::{RealFiles, RealSink};
+use dl_machine::Open;
 use dl_text::Out;
 use status::{exit_code, status_line};
 use std::io::ErrorKind;
 use std::process::ExitCode;
-use top::domlock_still;
+use top::domlock;
 use words::{Words, WordsFault};
 
 // The words behind the program's name. A word that is no UTF-8 is no good word.
@@ -52,7 +53,15 @@ fn main(rt: HostRuntime) -> ExitCode {
         Ok(words) => {
             let mut files = RealFiles::new(&rt);
             let mut sink = RealSink::new(rt.stdout());
-            domlock_still(rt.alloc(), &words, &mut files, &mut sink).status
+            domlock(
+                &rt,
+                rt.alloc(),
+                &words,
+                &mut files,
+                &mut sink,
+                &Open,
+            )
+            .status
         }
         Err(fault) => fault.status(),
     };

@@ -47,6 +47,8 @@ impl Words {
 pub enum Verb {
     /// Runs one operation file, operation after operation.
     Serial,
+    /// Runs up to 64 operation files side by side.
+    Run,
     /// Prints a module in its canonical form, and its code.
     Show,
 }
@@ -162,6 +164,11 @@ fn row_of(word: &str) -> Option<CommandRow>
             fewest: 1,
             most: 1,
         }),
+        "run" => Some(CommandRow {
+            verb: Verb::Run,
+            fewest: 1,
+            most: 64,
+        }),
         "show" => Some(CommandRow {
             verb: Verb::Show,
             fewest: 0,
@@ -224,6 +231,7 @@ pub fn command_of(alloc: Global, words: &Words) -> Result<Command<'_>, WordsFaul
     ensures ok { IfOk result (λ command. task_of_words words.entry.now ≡ Some (task_of command)) }
     ensures usage { IsErrOf result WordsFault.Usage → task_of_words words.entry.now ≡ None }
     ensures one { IfOk result (λ command. command.verb ≡ Verb.Serial → length command.rest.items ≡ 1) }
+    ensures some { IfOk result (λ command. command.verb ≡ Verb.Run → 1 ≤ length command.rest.items) }
     ensures few { IfOk result (λ command. length command.rest.items ≤ 64) }
     ensures places { IfOk result (λ command. (1 ≤ command.places) × (command.places ≤ 65536)) }
 {

@@ -11,7 +11,7 @@ use Rattle.dl_history.proofs.merging.merge.Goals as goal
 
 pub returns-clause-entries : goal.returns-clause-entries
 returns-clause-entries c =
-    let all : c.gather.new.entries.items ≡ joined c.args.closed.now.entries
+    let all : c.gather.new.all.items ≡ joined c.args.closed.now.entries
     = c.gather.ensures ∙ ap (λ l. l ++ joined c.as_slice.result.now) c.room.invariant.no_entries ∙ ap joined c.as_slice.ensures in
     let up : IsNonDecreasingBy (λ (entry : OneEntry). entry.ticket) c.sort_unstable_by_key.new.self.items
     = IsNonDecreasingBy-from_sort_by_key (λ (entry : OneEntry). entry.ticket) _ c.sort_unstable_by_key.ensures.sorted (λ a r q k. search rules) in
@@ -20,7 +20,7 @@ returns-clause-entries c =
 
 pub returns-clause-moves : goal.returns-clause-moves
 returns-clause-moves c =
-    let all : c.gather.new.entries.items ≡ joined c.args.closed.now.entries
+    let all : c.gather.new.all.items ≡ joined c.args.closed.now.entries
     = c.gather.ensures ∙ ap (λ l. l ++ joined c.as_slice.result.now) c.room.invariant.no_entries ∙ ap joined c.as_slice.ensures in
     let up : IsNonDecreasingBy (λ (entry : OneEntry). entry.ticket) c.sort_unstable_by_key.new.self.items
     = IsNonDecreasingBy-from_sort_by_key (λ (entry : OneEntry). entry.ticket) _ c.sort_unstable_by_key.ensures.sorted (λ a r q k. search rules) in

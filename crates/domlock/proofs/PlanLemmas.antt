@@ -1,0 +1,26 @@
+-- A run of calls of a checked module from its start heap has a plan.
+use Rattle.std.proofs.Common.{◌≤◌, ℕ, List, length, map, arith}
+use Rattle.std.specs.Prelude.{All}
+use Rattle.std.proofs.lemmas.List.{length-map}
+use Rattle.std.proofs.lemmas.List.Elements.{All-map}
+use Rattle.dl_ir.specs.declared.calls.Call.{Call}
+use Rattle.dl_ir.specs.declared.modules.Module.{Module}
+use Rattle.dl_ir.specs.CallForms.{AreCallsOf}
+use Rattle.dl_ir.specs.Checked.{IsChecked}
+use Rattle.dl_shape.proofs.Starting.{hidden_count-start, start_is_startable}
+use Rattle.dl_instr.specs.Code.{code}
+use Rattle.dl_instr.specs.DropsLaws.{PlainIsCode}
+use Rattle.dl_core.specs.Passes.{first_plan}
+use Rattle.dl_core.specs.Plans.{IsPlan}
+
+pub starts_plan : PlainIsCode → (source : Module) (all : List (List Call)) (places : ℕ) → IsChecked source → All (AreCallsOf source) all
+    → 1 ≤ length all → length all ≤ 64 → places ≤ 65536 → IsPlan (first_plan (code source) places (map length all))
+starts_plan plain source all places checked calls some few room = record {
+  checked = checked;
+  code = plain source;
+  start = record { startable = start_is_startable source checked.start; room = omega (arith, hidden_count-start source) };
+  some_callers = omega (arith, some, length-map all (λ (calls : List Call). length calls));
+  few_callers = omega (arith, few, length-map all (λ (calls : List Call). length calls));
+  few_calls = All-map (λ (size : ℕ). size ≤ 65536) (λ (calls : List Call). length calls) all (λ k d within. (calls k d within).short);
+  few_places = room;
+}
