@@ -66,11 +66,11 @@ module _ (source : Module) (files : List (List Call)) where
     faulty : {fault : ReplayFault} → IsFault source files heap history fault → Faulty source files (greatest_ticket heap + 1) heap history fault
     faulty (gap before entry upto other) =
         subst (λ es. Faulty source files (greatest_ticket heap + 1) heap es (Gap (greatest_ticket heap + 1 + length before))) (sym upto.whole)
-        (faulty_behind (entry ∷ upto.behind) _ upto.legal (gap_here other))
+        (faulty_behind (entry ∷ upto.behind) _ upto.legal.goes (gap_here other))
     faulty (differs before entry call upto own named other) =
         let next = greatest_ticket heap + 1 + length before in
         subst (λ es. Faulty source files (greatest_ticket heap + 1) heap es (Differs next entry.answer (operated source (replayed source files heap before) next call).answer)) (sym upto.whole)
-        (faulty_behind (entry ∷ upto.behind) _ upto.legal (differs_here call own named other))
+        (faulty_behind (entry ∷ upto.behind) _ upto.legal.goes (differs_here call own named other))
 
     pub legal_has_none : {fault : ReplayFault} → IsLegalFrom source files (greatest_ticket heap + 1) heap history → IsFault source files heap history fault → ⊥
     legal_has_none legal is = not_faulty (faulty is) legal

@@ -7,6 +7,7 @@ ghost use Rattle.dl_meaning.specs.FirstStates.{HasTicketsBelow};
 ghost use Rattle.dl_meaning.specs.Operations.{AreFilesOf};
 ghost use Rattle.dl_serial.specs.Rooms.{allocs_of};
 ghost use Rattle.dl_shape.specs.Replay.{replayed, greatest_ticket, IsLegal};
+ghost use Rattle.dl_shape.specs.Startable.{IsStartable};
 ghost use Rattle.dl_replay.specs.declared.replays.ReplayFault.{ReplayFault as FaultOf};
 ghost use Rattle.dl_replay.specs.Faults.{IsFault, NamesOperation};
 ghost use Rattle.dl_replay.specs.Steps.{GoesOn, IsFaultHere};
@@ -66,8 +67,7 @@ pub fn replay(
 ) -> Result<Replayed, ReplayFault>
     requires checked { IsChecked source.now }
     requires of_module { AreFilesOf source.now files.now }
-    requires heap { IsHeapOf source.now start.now.objects }
-    requires tickets { greatest_ticket start.now.objects ≤ 4611686018427387904 }
+    requires startable { IsStartable source.now start.now.objects }
     requires named { All (NamesOperation files.now) history.now.entries }
 
     // A history is replayed where it is legal, unless memory runs out.

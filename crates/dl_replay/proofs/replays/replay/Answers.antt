@@ -22,7 +22,7 @@ loop-at-init c =
       same = c.entries-entries.ensures;
       legal = ends;
       left = copy;
-      of_module = subst (IsHeapOf c.args.source.now) (sym copy) c.requires.heap;
+      of_module = subst (IsHeapOf c.args.source.now) (sym copy) c.requires.startable.of_module;
       below = subst (λ (h : Objects). HasTicketsBelow (c.greatest_ticket-first.result + 1 + 0) h) (sym copy) (subst (λ n. HasTicketsBelow n start) first (below_next start));
     }
 
@@ -62,7 +62,7 @@ fault_at c some =
     let e = c.index-entries-at.result in
     let first : c.greatest_ticket-first.result + 1 ≡ greatest_ticket start + 1 = omega (arith, c.greatest_ticket-first.ensures) in
     fault_here c.args.source.now c.args.files.now start c.args.history.now.entries (take at es) e c.loop-at.heap.objects (c.greatest_ticket-first.result + 1 + at) c.in_err-replay_entry.field-0.0
-    (record { behind = drop (at + 1) es; whole = sym c.loop-at.invariant.same ∙ around es at e c.loop-at-test.true c.index-entries-at.is; legal = c.loop-at.invariant.legal })
+    (record { behind = drop (at + 1) es; whole = sym c.loop-at.invariant.same ∙ around es at e c.loop-at-test.true c.index-entries-at.is; legal = record { startable = c.requires.startable; goes = c.loop-at.invariant.legal } })
     c.loop-at.invariant.left (next_at c.args.source.now c.args.files.now start es at (c.greatest_ticket-first.result + 1) first c.loop-at-test.true) some c.in_err-replay_entry.ensures.fault
 
 -- a fault is want of memory, or it is not
@@ -77,7 +77,7 @@ returns-in_err-replay_entry-clause-only c legal =
     passed c.from_residual-in_err-replay_entry.result c.in_err-replay_entry.field-0.0 (λ fault. fault ≡ Memory) c.from_residual-in_err-replay_entry.ensures.1
     (elim (memory_or_not c.in_err-replay_entry.field-0.0) [
       | inl none ↦ none
-      | inr some ↦ absurd (legal_has_none c.args.source.now c.args.files.now c.args.start.now.objects c.args.history.now.entries legal (fault_at d some))
+      | inr some ↦ absurd (legal_has_none c.args.source.now c.args.files.now c.args.start.now.objects c.args.history.now.entries legal.goes (fault_at d some))
     ])
 
 pub returns-in_err-replay_entry-clause-fault : goal.returns-in_err-replay_entry-clause-fault
@@ -99,6 +99,13 @@ returns-in_err-replay_entry-clause-only_fault c fault is =
     failed c.from_residual-in_err-replay_entry.result (λ _. ⊥) same c.from_residual-in_err-replay_entry.ensures.0
     (passed c.from_residual-in_err-replay_entry.result c.in_err-replay_entry.field-0.0 same c.from_residual-in_err-replay_entry.ensures.1
     (λ some. has_one c.args.source.now c.args.files.now c.args.start.now.objects c.args.history.now.entries (fault_at d some) is))
+
+pub returns-clause-legal : goal.returns-clause-legal
+returns-clause-legal c = record {
+  startable = c.requires.startable;
+  goes = subst (IsLegalFrom c.args.source.now c.args.files.now (greatest_ticket c.args.start.now.objects + 1) c.args.start.now.objects)
+      (take_all c.loop-at.at c.entries-entries.result.now c.loop-at-test.false ∙ c.loop-at.invariant.same) c.loop-at.invariant.legal;
+}
 
 pub returns-clause-only_fault : goal.returns-clause-only_fault
 returns-clause-only_fault c fault is =
