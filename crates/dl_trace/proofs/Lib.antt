@@ -1,0 +1,4 @@
+-- The lemmas of this crate.
+pub mod Ways
+pub mod Rounds
+pub mod Overs

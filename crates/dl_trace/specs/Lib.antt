@@ -1,0 +1,5 @@
+-- What contracts on scheduled runs speak of.
+pub mod Lines
+pub mod Runs
+pub mod Left
+pub mod Laws

@@ -1,0 +1,7 @@
+//! Scheduled runs of the machine of all callers, and the trace that is printed of them. `docs/FORMATS.md` has the form of the
+//! trace.
+#![tactic(auto)]
+
+mod laws;
+
+pub use laws::{scheduled_runs_are_over, scheduled_runs_end, scheduled_runs_reach};
