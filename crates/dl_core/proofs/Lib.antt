@@ -76,5 +76,13 @@ pub mod StepsKeep
 pub mod FreshSound
 pub mod BeginKeeps
 pub mod LawfulAlways
+pub mod Standing
+pub mod Outcomes
+pub mod InRun
+pub mod FirstRun
+pub mod Opened
+pub mod LastRun
+pub mod Owners
+pub mod Added
 pub mod Elements
 pub mod Small

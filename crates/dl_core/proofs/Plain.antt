@@ -16,7 +16,7 @@ use Rattle.dl_core.specs.Heaps.{Heap, put_at, total, refs, refs_in, changed, pla
 use Rattle.dl_core.proofs.Maps.{names, get-put_at}
 
 module _ {K X Y : Type 0} (R : K → K → Ordering) (change : X → Y) where
-  abbrev changed_entry : K × X → K × Y
+  abbrev pub changed_entry : K × X → K × Y
   changed_entry e = (e.0, change e.1)
 
   below_changed : (x : K) (es : List (K × X)) → below_all R x (map changed_entry es) ≡ below_all R x es
@@ -35,7 +35,7 @@ module _ {K X Y : Type 0} (R : K → K → Ordering) (change : X → Y) where
         | false ↦ found_changed q es
       ]
 
-  still_sorted : (m : FinMap R X) → T (is_sorted R (map changed_entry (finite.entries m)))
+  pub still_sorted : (m : FinMap R X) → T (is_sorted R (map changed_entry (finite.entries m)))
   still_sorted m = subst T (sym (sorted_changed (finite.entries m))) (entries_sorted m)
 
   -- what is found in a map whose values are changed

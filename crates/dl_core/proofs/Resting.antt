@@ -17,7 +17,7 @@ use Rattle.dl_core.specs.Shown.{shown, CanGoOn, HasTurns, AreTidy}
 use Rattle.dl_ir.specs.Heap.{name_cmp}
 
 -- no arguments name no roots
-no_roots : (plan : Plan) → [] ≡ roots_of plan no_call
+pub no_roots : (plan : Plan) → [] ≡ roots_of plan no_call
 no_roots plan = by (op_of plan no_call)
   where
     none : (params : List LocalDecl) → [] ≡ roots_among (zip params [])

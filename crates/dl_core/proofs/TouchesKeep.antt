@@ -191,11 +191,6 @@ module _ (plan : Plan) (core : Core) (calls : Calls) (caller : ℕ) (is : IsPlan
               (sound.each caller).roots n (subst (IsHeld heap caller) (sym l.0) was) z
         ]
 
-    kept_entered : (w : Works plan core calls caller is lawful sound) → IsKept plan (acted core caller name outcome) calls
-    kept_entered w =
-        touched_kept plan core calls caller lawful sound (busy_caller plan core calls sound caller (not_idle frame.stage w.2.stage)) name outcome.1 outcome.0 row (own_entered w)
-        (counted_kept plan core calls caller is lawful sound name at outcome acts) (apart_kept plan core calls caller is lawful sound name at outcome acts)
-
   -- ---- a root
 
   -- how a caller stands before it enters
@@ -305,47 +300,35 @@ module _ (plan : Plan) (core : Core) (calls : Calls) (caller : ℕ) (is : IsPlan
         idle_not : stages.Called ≡ stages.Idle → ⊥
         idle_not e = cc
 
-  kept_root : (number : ℕ) → due plan frame ≡ TakesRoot number → frame.loose ≡ [] → frame.stage ≡ stages.Called → slice_get (roots_of plan frame.call) frame.taken ≡ Some number
-      → (outcome : Acted) → act plan caller frame (due plan frame) (finite.get heap (root number)) ≡ Some outcome → IsKept plan (acted core caller (root number) outcome) calls
-  kept_root number due_is tidy called next_is outcome acts = by (finite.get heap (root number)) refl (ap (λ d. act plan caller frame d (finite.get heap (root number))) (sym due_is) ∙ acts)
+  own_at_root : (number : ℕ) → due plan frame ≡ TakesRoot number → frame.loose ≡ [] → frame.stage ≡ stages.Called → slice_get (roots_of plan frame.call) frame.taken ≡ Some number
+      → (outcome : Acted) → act plan caller frame (due plan frame) (finite.get heap (root number)) ≡ Some outcome → IsOwnKept plan core calls caller (root number) outcome.1 outcome.0
+  own_at_root number due_is tidy called next_is outcome acts = by (finite.get heap (root number)) refl (ap (λ d. act plan caller frame d (finite.get heap (root number))) (sym due_is) ∙ acts)
     where
-      at : aim (due plan frame) ≡ Some (root number)
-      at = ap aim due_is
-
-      not_idle_now : frame.stage ≢ stages.Idle
-      not_idle_now e = let clash : stages.Called ≡ stages.Idle = sym called ∙ e in cc
-
-      all : IsOwnKept plan core calls caller (root number) outcome.1 outcome.0 → IsKept plan (acted core caller (root number) outcome) calls
-      all own =
-          touched_kept plan core calls caller lawful sound (busy_caller plan core calls sound caller not_idle_now) (root number) outcome.1 outcome.0
-          (events_may plan core calls caller is lawful sound (root number) at outcome acts) own
-          (counted_kept plan core calls caller is lawful sound (root number) at outcome acts) (apart_kept plan core calls caller is lawful sound (root number) at outcome acts)
-
-      by_mark : (object : Object) → finite.get heap (root number) ≡ Some object → (mark : Mark) → object.mark ≡ mark → take_root caller number frame object mark ≡ Some outcome → IsKept plan (acted core caller (root number) outcome) calls
-      by_mark object there Free m e = all (subst (λ (o : Acted). IsOwnKept plan core calls caller (root number) o.1 o.0) (same_some e) (own_root number due_is tidy called next_is object there m))
+      by_mark : (object : Object) → finite.get heap (root number) ≡ Some object → (mark : Mark) → object.mark ≡ mark → take_root caller number frame object mark ≡ Some outcome → IsOwnKept plan core calls caller (root number) outcome.1 outcome.0
+      by_mark object there Free m e = subst (λ (o : Acted). IsOwnKept plan core calls caller (root number) o.1 o.0) (same_some e) (own_root number due_is tidy called next_is object there m)
       by_mark object there (Held other) m e = absurd (no_some e)
       by_mark object there (Sealed ticket) m e = absurd (no_some e)
 
-      by : (found : Option Object) → finite.get heap (root number) ≡ found → act plan caller frame (TakesRoot number) found ≡ Some outcome → IsKept plan (acted core caller (root number) outcome) calls
+      by : (found : Option Object) → finite.get heap (root number) ≡ found → act plan caller frame (TakesRoot number) found ≡ Some outcome → IsOwnKept plan core calls caller (root number) outcome.1 outcome.0
       by None p e = absurd (no_some e)
       by (Some object) p e = by_mark object p object.mark refl e
 
-  -- every event that touches an object keeps all that holds
-  pub touch_keeps : (name : Name) → aim (due plan frame) ≡ Some name → (outcome : Acted) → act plan caller frame (due plan frame) (finite.get heap name) ≡ Some outcome → IsKept plan (acted core caller name outcome) calls
-  touch_keeps name at outcome acts = by (due plan frame) refl (why.why plan frame)
+  -- what holds of the caller after an event that touches an object
+  pub touch_own : (name : Name) → aim (due plan frame) ≡ Some name → (outcome : Acted) → act plan caller frame (due plan frame) (finite.get heap name) ≡ Some outcome → IsOwnKept plan core calls caller name outcome.1 outcome.0
+  touch_own name at outcome acts = by (due plan frame) refl (why.why plan frame)
     where
-      working : (w : Works plan core calls caller is lawful sound) → IsKept plan (acted core caller name outcome) calls
-      working w = kept_entered name at outcome acts w
+      working : (w : Works plan core calls caller is lawful sound) → IsOwnKept plan core calls caller name outcome.1 outcome.0
+      working w = own_entered name at outcome acts w
 
       none_aimed : (d : Due) → due plan frame ≡ d → aim d ≡ None → ⊥
       none_aimed d e f = no_some (sym f ∙ ap aim (sym e) ∙ at)
 
-      by : (d : Due) → due plan frame ≡ d → Why plan frame d → IsKept plan (acted core caller name outcome) calls
+      by : (d : Due) → due plan frame ≡ d → Why plan frame d → IsOwnKept plan core calls caller name outcome.1 outcome.0
       by d e why.idles = absurd (none_aimed d e refl)
       by d e (why.reserves tidy stage few) = absurd (none_aimed d e refl)
       by d e (why.takes_root number tidy called next_is) =
           let same : root number ≡ name = same_some (ap aim (sym e) ∙ at) in
-          subst (λ n. act plan caller frame (due plan frame) (finite.get heap n) ≡ Some outcome → IsKept plan (acted core caller n outcome) calls) same (kept_root number e tidy called next_is outcome) acts
+          subst (λ n. act plan caller frame (due plan frame) (finite.get heap n) ≡ Some outcome → IsOwnKept plan core calls caller n outcome.1 outcome.0) same (own_at_root number e tidy called next_is outcome) acts
       by d e (why.enters tidy stage next_is) = absurd (none_aimed d e refl)
       by d e (why.reads_code local field n p to) = working (works_running plan core calls caller is lawful sound p.running)
       by d e (why.reads_first field n booked given p hand) = working (works_loose plan core calls caller is lawful sound n given.rest given.first)
@@ -358,3 +341,10 @@ module _ (plan : Plan) (core : Core) (calls : Calls) (caller : ℕ) (is : IsPlan
       by d e (why.seals end entry rest tidy ended null entries) = working (works_ended plan core calls caller is lawful sound end ended)
       by d e (why.makes kind p few) = working (works_running plan core calls caller is lawful sound p.running)
       by d e (why.finishes end tidy stage null none) = absurd (none_aimed d e refl)
+
+  -- every event that touches an object keeps all that holds
+  pub touch_keeps : (name : Name) → aim (due plan frame) ≡ Some name → (outcome : Acted) → act plan caller frame (due plan frame) (finite.get heap name) ≡ Some outcome → IsKept plan (acted core caller name outcome) calls
+  touch_keeps name at outcome acts =
+      let own = touch_own name at outcome acts in
+      touched_kept plan core calls caller lawful sound (busy_caller plan core calls sound caller own.was_busy) name outcome.1 outcome.0 (events_may plan core calls caller is lawful sound name at outcome acts) own
+      (counted_kept plan core calls caller is lawful sound name at outcome acts) (apart_kept plan core calls caller is lawful sound name at outcome acts)

@@ -26,3 +26,5 @@ pub mod Advances
 pub mod Closing
 pub mod Stored
 pub mod Turns
+pub mod Machines
+pub mod Machinery

@@ -1,6 +1,7 @@
 -- The parts of the state that the program keeps, and the state that they are.
-use Rattle.std.specs.Prelude.{◌≡◌, ◌≢◌, ◌+◌, ◌<◌, ◌≤◌, ◌^◌, ℕ, List, length, nat_lt, if◌then◌else◌, map, Some, slice_get}
+use Rattle.std.specs.Prelude.{◌≡◌, ◌≢◌, ◌+◌, ◌<◌, ◌≤◌, ◌^◌, ℕ, List, length, nat_lt, if◌then◌else◌, map, Some, slice_get, All}
 use Rattle.std.specs.FinMap as finite
+use Rattle.dl_ir.specs.declared.answers.Entry.{Entry}
 use Rattle.dl_ir.specs.declared.calls.Call.{Call}
 use Rattle.dl_ir.specs.Rows.{Rows}
 use Rattle.dl_instr.specs.declared.code.Code.{Code}
@@ -100,6 +101,10 @@ pub record HasMemory (kept : Kept) (heap : Rows Object) : Type 0 where
   pub refusals : kept.index ≤ kept.refusals.room
   pub rest : length kept.entries.items + length kept.refusals.items ≤ kept.index
   pub busy : kept.stage ≢ stages.Idle → length kept.entries.items + length kept.refusals.items < kept.index
+
+-- the entries that are kept of a caller are its own
+abbrev pub HasOwn : ℕ → Kept → Type 0
+HasOwn caller kept = All (λ (entry : Entry). entry.caller ≡ caller) kept.entries.items
 
 -- the parts are those of a state of a run, and there is memory for all that the run can hold
 pub record IsInRun (code : Code) (heap : Rows Object) (frames : List Kept) (counters : Counters) : Type 0 where

@@ -5,7 +5,7 @@ ghost use Rattle.dl_core.specs.Accounts.{shown_account};
 ghost use Rattle.dl_core.specs.Core.{Account, asks, enters, finishes, no_account};
 ghost use Rattle.dl_core.specs.Frames.{Frame as Pure};
 ghost use Rattle.dl_core.specs.Heaps.{Heap};
-ghost use Rattle.dl_core.specs.Parts.{CanAsk, CanEnter, CanFinish, CanMove, core_by, given_back};
+ghost use Rattle.dl_core.specs.Parts.{CanAsk, CanEnter, CanFinish, CanMove, HasOwn, core_by, given_back};
 ghost use Rattle.dl_core.specs.Plans.{Plan};
 ghost use Rattle.dl_core.specs.Shown.{shown, memory_of, CanGoOn, HasTurns};
 
@@ -32,6 +32,7 @@ pub struct Counters {
 pub fn reserve(need: u32, caller: u32, counters: &mut Counters, frame: &mut Frame) -> Progress
     requires { CanAsk frame.old counters.old }
     ensures core { (heap : Heap) (frames : List Pure) (accounts : List Account) → get_or accounts caller no_account ≡ shown_account frame.old → (core_by heap (set frames caller (shown frame.new)) (set accounts caller (shown_account frame.new)) counters.new, result) ≡ asks (core_by heap frames accounts counters.old) caller (shown frame.old) need }
+    ensures entries { frame.new.entries ≡ frame.old.entries }
     ensures can { (code : Code) → HasTurns code → CanGoOn code frame.old → CanGoOn code frame.new }
     ensures memory { memory_of frame.new ≡ memory_of frame.old }
 {
@@ -65,6 +66,7 @@ pub fn enter(code: &Code, counters: &mut Counters, frame: &mut Frame) -> Progres
     requires can { CanGoOn code.now frame.old }
     requires needs { CanEnter code.now frame.old counters.old }
     ensures core { (plan : Plan) (heap : Heap) (frames : List Pure) (accounts : List Account) (caller : ℕ) → plan.code ≡ code.now → get_or accounts caller no_account ≡ shown_account frame.old → (core_by heap (set frames caller (shown frame.new)) (set accounts caller (shown_account frame.new)) counters.new, result) ≡ enters plan (core_by heap frames accounts counters.old) caller (shown frame.old) }
+    ensures entries { frame.new.entries ≡ frame.old.entries }
     ensures can { CanGoOn code.now frame.new }
     ensures memory { memory_of frame.new ≡ memory_of frame.old }
 {
@@ -94,6 +96,7 @@ fn give_back(count: u32, counters: &mut Counters) -> u64
 pub fn finish(caller: u32, end: End, counters: &mut Counters, frame: &mut Frame) -> Progress
     requires { CanFinish frame.old counters.old }
     ensures core { (heap : Heap) (frames : List Pure) (accounts : List Account) → get_or accounts caller no_account ≡ shown_account frame.old → (core_by heap (set frames caller (shown frame.new)) (set accounts caller (shown_account frame.new)) counters.new, result) ≡ finishes (core_by heap frames accounts counters.old) caller (shown frame.old) end }
+    ensures own { HasOwn caller frame.old → HasOwn caller frame.new }
     ensures can { (code : Code) → HasTurns code → CanGoOn code frame.old → CanGoOn code frame.new }
     ensures memory { memory_of frame.new ≡ memory_of frame.old }
 {

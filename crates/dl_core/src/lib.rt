@@ -5,6 +5,7 @@
 mod answers;
 mod bits;
 mod calls;
+mod closes;
 mod codes;
 mod counters;
 mod dues;
@@ -15,7 +16,9 @@ mod going_on;
 mod grounds;
 mod laws;
 mod lists;
+mod machines;
 mod objects;
+mod openings;
 mod ready;
 mod recounts;
 mod rests;
@@ -32,5 +35,6 @@ pub use laws::{
     begins_keep, events_dominate, events_may, lawful_always, lone_runs_are_serial, lone_runs_end,
     plans_have_good_code, starts_keep, steps_keep,
 };
+pub use machines::Core;
 pub use objects::{Mark, Object};
 pub use stages::{Booked, Finished, Stage, Versions};

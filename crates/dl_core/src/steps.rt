@@ -11,7 +11,7 @@ ghost use Rattle.dl_core.specs.Accounts.{shown_account};
 ghost use Rattle.dl_core.specs.Core.{Account, stepped, with_call, no_account};
 ghost use Rattle.dl_core.specs.Frames.{Frame as Pure, idle};
 ghost use Rattle.dl_core.specs.LocalSteps.{due as due_in};
-ghost use Rattle.dl_core.specs.Parts.{core_by, core_of, CanStep, CanAdvance, CanBegin, IsInRun, StandsReady};
+ghost use Rattle.dl_core.specs.Parts.{core_by, core_of, CanStep, CanAdvance, CanBegin, HasOwn, IsInRun, StandsReady};
 ghost use Rattle.dl_core.specs.Plans.{Plan, IsCaller, size_of};
 ghost use Rattle.dl_core.specs.Reached.{Calls, IsReached, calls_of, with_begun};
 ghost use Rattle.dl_core.specs.Shown.{shown, memory_of, CanGoOn, HasTurns};
@@ -52,6 +52,7 @@ fn take_step(
     requires few { finite.len heap.old.rows ≤ heap.old.room }
     ensures stepped { (plan : Plan) (frames : List Pure) (accounts : List Account) → plan.code ≡ code.now → get_or frames caller idle ≡ shown frame.old → get_or accounts caller no_account ≡ shown_account frame.old → due_in plan (shown frame.old) ≡ due → stepped plan (core_by heap.old.rows frames accounts counters.old) caller ≡ (core_by heap.new.rows (set frames caller (shown frame.new)) (set accounts caller (shown_account frame.new)) counters.new, result) }
     ensures can { CanGoOn code.now frame.new }
+    ensures own { HasOwn caller frame.old → HasOwn caller frame.new }
     ensures memory { memory_of frame.new ≡ memory_of frame.old }
     ensures few { finite.len heap.new.rows ≤ heap.new.room }
     ensures room { heap.new.room ≡ heap.old.room }
@@ -78,6 +79,7 @@ pub fn step(
     requires few { finite.len heap.old.rows ≤ heap.old.room }
     ensures stepped { (plan : Plan) (frames : List Pure) (accounts : List Account) → plan.code ≡ code.now → get_or frames caller idle ≡ shown frame.old → get_or accounts caller no_account ≡ shown_account frame.old → stepped plan (core_by heap.old.rows frames accounts counters.old) caller ≡ (core_by heap.new.rows (set frames caller (shown frame.new)) (set accounts caller (shown_account frame.new)) counters.new, result) }
     ensures can { CanGoOn code.now frame.new }
+    ensures own { HasOwn caller frame.old → HasOwn caller frame.new }
     ensures memory { memory_of frame.new ≡ memory_of frame.old }
     ensures few { finite.len heap.new.rows ≤ heap.new.room }
     ensures room { heap.new.room ≡ heap.old.room }
@@ -99,7 +101,7 @@ fn advance_by(
     requires may { (frame : Kept) → slice_get frames.old.items caller ≡ Some frame → CanAdvance code.now frame heap.old counters.old }
     requires few { finite.len heap.old.rows ≤ heap.old.room }
     ensures stepped { (plan : Plan) → plan.code ≡ code.now → stepped plan (core_of heap.old frames.old.items counters.old) caller ≡ (core_of heap.new frames.new.items counters.new, result) }
-    ensures frames { (before : Kept) → slice_get frames.old.items caller ≡ Some before → (after : Kept) × (frames.new.items ≡ set frames.old.items caller after) × CanGoOn code.now after × (memory_of after ≡ memory_of before) }
+    ensures frames { (before : Kept) → slice_get frames.old.items caller ≡ Some before → (after : Kept) × (frames.new.items ≡ set frames.old.items caller after) × CanGoOn code.now after × (memory_of after ≡ memory_of before) × (HasOwn caller before → HasOwn caller after) }
     ensures few { finite.len heap.new.rows ≤ heap.new.room }
     ensures room { heap.new.room ≡ heap.old.room }
 {
@@ -120,7 +122,7 @@ pub fn advance(
     requires within { caller < length frames.old.items }
     ensures stepped { (plan : Plan) → plan.code ≡ code.now → stepped plan (core_of heap.old frames.old.items counters.old) caller ≡ (core_of heap.new frames.new.items counters.new, result) }
     ensures reached { (plan : Plan) (calls : Calls) → plan.code ≡ code.now → IsReached plan (core_of heap.old frames.old.items counters.old) calls → IsReached plan (core_of heap.new frames.new.items counters.new) calls }
-    ensures frames { (before : Kept) → slice_get frames.old.items caller ≡ Some before → (after : Kept) × (frames.new.items ≡ set frames.old.items caller after) × CanGoOn code.now after × (memory_of after ≡ memory_of before) }
+    ensures frames { (before : Kept) → slice_get frames.old.items caller ≡ Some before → (after : Kept) × (frames.new.items ≡ set frames.old.items caller after) × CanGoOn code.now after × (memory_of after ≡ memory_of before) × (HasOwn caller before → HasOwn caller after) }
     ensures room { heap.new.room ≡ heap.old.room }
 {
     advance_by(code, caller, heap, counters, frames)
@@ -132,7 +134,7 @@ fn begin_by(code: &Code, caller: u32, call: &Call, frames: &mut Vec<Frame>)
     requires turns { HasTurns code.now }
     requires may { (frame : Kept) → slice_get frames.old.items caller ≡ Some frame → CanBegin code.now frame call.now }
     ensures core { (heap : Rows Object) (counters : Counters) → core_of heap frames.new.items counters ≡ with_call (core_of heap frames.old.items counters) caller call.now }
-    ensures frames { (before : Kept) → slice_get frames.old.items caller ≡ Some before → (after : Kept) × (frames.new.items ≡ set frames.old.items caller after) × CanGoOn code.now after × (memory_of after ≡ memory_of before) }
+    ensures frames { (before : Kept) → slice_get frames.old.items caller ≡ Some before → (after : Kept) × (frames.new.items ≡ set frames.old.items caller after) × CanGoOn code.now after × (memory_of after ≡ memory_of before) × (HasOwn caller before → HasOwn caller after) }
 {
     let frame = &mut frames[caller as usize];
     begun(code, call, frame);
@@ -146,7 +148,7 @@ pub fn begin(code: &Code, caller: u32, call: &Call, frames: &mut Vec<Frame>)
     requires fits { IsCallOf code.now.source call.now }
     ensures core { (heap : Rows Object) (counters : Counters) → core_of heap frames.new.items counters ≡ with_call (core_of heap frames.old.items counters) caller call.now }
     ensures reached { (plan : Plan) (heap : Rows Object) (counters : Counters) (calls : Calls) → plan.code ≡ code.now → IsCaller plan caller → length (calls_of calls caller) < size_of plan caller → IsReached plan (core_of heap frames.old.items counters) calls → IsReached plan (core_of heap frames.new.items counters) (with_begun calls caller call.now) }
-    ensures frames { (before : Kept) → slice_get frames.old.items caller ≡ Some before → (after : Kept) × (frames.new.items ≡ set frames.old.items caller after) × CanGoOn code.now after × (memory_of after ≡ memory_of before) }
+    ensures frames { (before : Kept) → slice_get frames.old.items caller ≡ Some before → (after : Kept) × (frames.new.items ≡ set frames.old.items caller after) × CanGoOn code.now after × (memory_of after ≡ memory_of before) × (HasOwn caller before → HasOwn caller after) }
 {
     begin_by(code, caller, call, frames);
 }

@@ -18,7 +18,8 @@ use Rattle.dl_core.specs.Passes.{PassView, entries_in, refusals_in}
 use Rattle.dl_core.specs.Closing.{EndsOn, IsLawfulEnd, AreDone, all_of, begun_on, history_left}
 use Rattle.dl_core.specs.Sound.{IsSound, numbers_from}
 use Rattle.dl_core.proofs.LawfulAlways.{lawful_always}
-use Rattle.dl_order.specs.Ends.{AreAllIdle, IsRunOver, RunsClose, history_in, all_refusals}
+use Rattle.dl_order.specs.Ends.{IsRunOver, RunsClose, history_in, all_refusals}
+use Rattle.dl_core.specs.Machines.{AreAllIdle}
 use Rattle.dl_order.proofs.Ends.{runs_end}
 
 found : {X : Type 0} (xs : List X) (at : ℕ) → at < length xs → (x : X) × (slice_get xs at ≡ Some x)

@@ -8,7 +8,7 @@ use Rattle.dl_core.specs.Frames.{Frame, idle}
 use Rattle.dl_core.specs.Core.{Core, Shared, frame_of, with_call}
 use Rattle.dl_core.specs.Reached.{Calls, IsReached, begins, steps, with_begun}
 use Rattle.dl_order.specs.Serial.{Rests}
-use Rattle.dl_order.specs.Ends.{AreAllIdle}
+use Rattle.dl_core.specs.Machines.{AreAllIdle}
 use Rattle.dl_order.specs.Measure.{calls_left, steps_before_entry, steps_to_end, IsEnding, ends, EachRunEnds, EachRunCanEnd}
 use Rattle.dl_order.proofs.Always.{serial_always}
 use Rattle.dl_order.proofs.Falls.{begins_fall, steps_fall}

@@ -44,7 +44,8 @@ use Rattle.dl_core.specs.Sound.{IsSound, callers_of, numbers_from, moves_in, mov
 use Rattle.dl_core.proofs.Names.{same_number, same_some, no_some}
 use Rattle.dl_core.proofs.Plain.{get_plain, plain_refs}
 use Rattle.dl_core.proofs.LawfulAlways.{lawful_always}
-use Rattle.dl_order.specs.Ends.{AreAllIdle, history_in, all_refusals, IsRunOver, RunsEnd}
+use Rattle.dl_order.specs.Ends.{history_in, all_refusals, IsRunOver, RunsEnd}
+use Rattle.dl_core.specs.Machines.{AreAllIdle}
 use Rattle.dl_order.proofs.Always.{serial_on}
 use Rattle.dl_order.proofs.Histories.{told, same_pieces}
 use Rattle.dl_core.proofs.Elements.{Each, In, Up, each_in, each_map, each_of, each_all, all_each, in_contains, contains_in, pairs_up, up_pairs}

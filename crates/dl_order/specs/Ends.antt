@@ -12,18 +12,14 @@ use Rattle.dl_shape.specs.Pool.{IsLawfulPool}
 use Rattle.dl_shape.specs.Replay.{replayed, IsLegal}
 use Rattle.dl_shape.specs.Rising.{in_rising}
 use Rattle.dl_closed.specs.Unsealed.{IsUnsealed}
-use Rattle.dl_core.specs.declared.stages.Stage.TheVariants as stages
 use Rattle.dl_core.specs.Heaps.{plain}
 use Rattle.dl_core.specs.Plans.{Plan, IsPlan, MayStartFrom, source_of}
-use Rattle.dl_core.specs.Core.{Core, frame_of, entries_of, refusals_of}
+use Rattle.dl_core.specs.Core.{Core, entries_of, refusals_of}
+use Rattle.dl_core.specs.Machines.{AreAllIdle}
 use Rattle.dl_core.specs.Reached.{Calls, IsReached}
 use Rattle.dl_core.specs.Sound.{callers_of}
 use Rattle.dl_core.specs.Passes.{PassView}
 use Rattle.dl_core.specs.Closing.{AreDone, EndsOn, IsLawfulEnd, begun_on}
-
--- no caller has a call in hand
-abbrev pub AreAllIdle : Core → Type 0
-AreAllIdle core = (caller : ℕ) → (frame_of core.world caller).stage ≡ stages.Idle
 
 -- the operations that all callers have finished, in rising tickets
 abbrev pub history_in : Plan → Core → List Entry

@@ -17,7 +17,8 @@ use Rattle.dl_core.specs.Core.{Core, step, stepped}
 use Rattle.dl_core.specs.Reached.{Calls, IsReached, no_calls, with_begun}
 use Rattle.dl_core.specs.Reach.{WaitsFor, ticket_in}
 use Rattle.dl_core.specs.Laws.{HasJustEntered}
-use Rattle.dl_order.specs.Ends.{AreAllIdle, IsRunOver}
+use Rattle.dl_order.specs.Ends.{IsRunOver}
+use Rattle.dl_core.specs.Machines.{AreAllIdle}
 use Rattle.dl_order.specs.Serial.{IsSerial}
 
 -- an operation with a root, which does nothing

@@ -10,7 +10,7 @@ use Rattle.dl_core.specs.Core.{Core, Shared, frame_of, rules_of, step, with_call
 use Rattle.dl_core.specs.Reached.{Calls, IsReached, MayBegin, calls_of, with_begun}
 use Rattle.dl_core.specs.Reach.{ticket_in}
 use Rattle.dl_core.specs.Sound.{callers_of}
-use Rattle.dl_order.specs.Ends.{AreAllIdle}
+use Rattle.dl_core.specs.Machines.{AreAllIdle}
 use Rattle.dl_order.specs.Serial.{Rests}
 use Rattle.dl_order.specs.Lengths.{steps_in_turn}
 

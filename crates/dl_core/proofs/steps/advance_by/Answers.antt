@@ -1,11 +1,11 @@
-use Rattle.std.proofs.Common.{◌≡◌, length, Some, map, refl, sym, ap, ◌∙◌}
+use Rattle.std.proofs.Common.{◌≡◌, length, Some, map, refl, sym, ap, subst, ◌∙◌}
 use Rattle.std.specs.Prelude.{slice_get}
 use Rattle.std.proofs.lemmas.List.{map-set, get_or-map}
 use Rattle.std.proofs.lemmas.Option.{slice_get_read}
 use Rattle.dl_core.specs.Core.{no_account}
 use Rattle.dl_core.specs.Frames.{idle}
 use Rattle.dl_core.specs.Accounts.{shown_account}
-use Rattle.dl_core.specs.Parts.{core_by}
+use Rattle.dl_core.specs.Parts.{HasOwn, core_by}
 use Rattle.dl_core.specs.Shown.{shown, memory_of}
 use Rattle.dl_core.proofs.Names.{same_some}
 use Rattle.dl_core.proofs.steps.advance_by.Goals as goal
@@ -31,4 +31,4 @@ returns-clause-frames c before e =
     let frames = c.args.frames.now.items in
     let frame = c.index_mut-frame.result.now in
     let there : slice_get frames c.args.caller ≡ Some frame = slice_get_read frames (length frames) c.args.caller frame refl c.requires.within c.index_mut-frame.ensures.value in
-    (c.step.new.frame, refl, c.step.ensures.can, c.step.ensures.memory ∙ ap memory_of (same_some (sym there ∙ e)))
+    (c.step.new.frame, refl, c.step.ensures.can, c.step.ensures.memory ∙ ap memory_of (same_some (sym there ∙ e)), λ own. c.step.ensures.own (subst (HasOwn c.args.caller) (same_some (sym e ∙ there)) own))

@@ -1,12 +1,14 @@
-use Rattle.std.proofs.Common.{◌≡◌, length, Some, map, set, refl, sym, ap, ◌∙◌}
-use Rattle.std.specs.Prelude.{slice_get, get_or}
+use Rattle.std.proofs.Common.{◌≡◌, length, Some, map, set, refl, sym, ap, subst, ◌∙◌}
+use Rattle.std.specs.Prelude.{All, slice_get, get_or}
 use Rattle.std.proofs.lemmas.List.{map-set, get_or-map, set-get_or}
 use Rattle.std.proofs.lemmas.Option.{slice_get_read}
 use Rattle.dl_core.specs.Core.{no_account}
 use Rattle.dl_core.specs.Events.{begun}
 use Rattle.dl_core.specs.Frames.{idle}
 use Rattle.dl_core.specs.Accounts.{shown_account}
-use Rattle.dl_core.specs.Parts.{core_by}
+use Rattle.dl_ir.specs.declared.answers.Entry.{Entry}
+use Rattle.dl_core.specs.Parts.{HasOwn, core_by}
+use Rattle.dl_core.specs.Rooms.{Roomed}
 use Rattle.dl_core.specs.Shown.{shown, memory_of}
 use Rattle.dl_core.proofs.Names.{same_some}
 use Rattle.dl_core.proofs.steps.begin_by.Goals as goal
@@ -59,4 +61,4 @@ returns-clause-frames c before e =
     let frames = c.args.frames.now.items in
     let frame = c.index_mut-frame.result.now in
     let there : slice_get frames c.args.caller ≡ Some frame = slice_get_read frames (length frames) c.args.caller frame refl c.requires.within c.index_mut-frame.ensures.value in
-    (c.begun.new.frame, refl, c.begun.ensures.can, c.begun.ensures.memory ∙ ap memory_of (same_some (sym there ∙ e)))
+    (c.begun.new.frame, refl, c.begun.ensures.can, c.begun.ensures.memory ∙ ap memory_of (same_some (sym there ∙ e)), λ own. subst (λ (entries : Roomed Entry). All (λ (entry : Entry). entry.caller ≡ c.args.caller) entries.items) (sym c.begun.ensures.entries) (subst (HasOwn c.args.caller) (same_some (sym e ∙ there)) own))

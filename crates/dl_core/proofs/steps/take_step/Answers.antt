@@ -8,6 +8,7 @@ use Rattle.dl_core.specs.Accounts.{shown_account}
 use Rattle.dl_core.specs.Shown.{shown}
 use Rattle.dl_core.proofs.CoreSteps.{by_due, touch_steps, after_touch, aimed}
 use Rattle.dl_core.proofs.KeptSame.{account_same, memory_same}
+use Rattle.dl_core.proofs.Owners.{own_rooms}
 use Rattle.dl_core.proofs.steps.take_step.Goals as goal
 
 pub returns-in-Enters-clause-stepped : goal.returns-in-Enters-clause-stepped
@@ -38,6 +39,7 @@ returns-in_default c =
           ∙ ap (λ (t : Touched). after_touch frames accounts c.args.counters.now c.args.caller t) (sym (c.touch.ensures.touched plan at.0 code at.1))
           ∙ ap (λ (accounts_now : List Account). (core_by c.touch.new.heap.rows (set frames c.args.caller (shown c.touch.new.frame)) accounts_now c.args.counters.now, c.touch.result)) (sym same);
       can = c.touch.ensures.can;
+      own = own_rooms c.args.caller c.args.frame.now c.touch.new.frame c.touch.ensures.rooms;
       memory = memory_same c.touch.new.frame c.args.frame.now c.touch.ensures.rooms;
       few = c.touch.ensures.few;
       room = c.touch.ensures.room;
