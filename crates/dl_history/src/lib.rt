@@ -12,4 +12,5 @@ mod reports;
 
 pub use histories::History;
 pub use merging::{MergeRoom, merge};
+pub use pieces::{put_answer, put_dotted, put_name};
 pub use reports::write_report;

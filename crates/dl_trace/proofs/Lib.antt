@@ -1,4 +1,6 @@
 -- The lemmas of this crate.
 pub mod Ways
-pub mod Rounds
+pub mod Endings
 pub mod Overs
+pub mod Goings
+pub mod Makings

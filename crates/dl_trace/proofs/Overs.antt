@@ -12,12 +12,12 @@ use Rattle.dl_core.specs.Core.{Core, frame_of}
 use Rattle.dl_core.specs.Reached.{Calls, IsReached, calls_of}
 use Rattle.dl_core.specs.Sound.{callers_of}
 use Rattle.dl_core.proofs.LawfulAlways.{lawful_always}
-use Rattle.dl_order.specs.Ends.{AreAllIdle}
+use Rattle.dl_core.specs.Machines.{AreAllIdle}
 use Rattle.dl_order.proofs.Ends.{runs_end}
 use Rattle.dl_trace.specs.Runs.{Run, next_call, is_done_at, is_done, all_done, take_turn, round, rounds, give_to, started, scheduled}
 use Rattle.dl_trace.specs.Laws.{AreFilesOf, IsOnTheWay, IsRunOut, ScheduledRunsAreOver}
 use Rattle.dl_trace.proofs.Ways.{OnTheWay, counted, given_on, by_recursion, way_starts}
-use Rattle.dl_trace.proofs.Rounds.{of_callers, all_callers, schedule_on}
+use Rattle.dl_trace.proofs.Endings.{of_callers, all_callers, schedule_on}
 
 -- lists of one length with the same elements
 same_lists : (xs ys : Calls) → length xs ≡ length ys → ((k : ℕ) → k < length ys → get_or xs k [] ≡ get_or ys k []) → xs ≡ ys

@@ -4,7 +4,8 @@ use Rattle.dl_ir.specs.CallForms.{IsCallOf}
 use Rattle.dl_core.specs.Plans.{Plan, IsPlan, IsCaller, source_of}
 use Rattle.dl_core.specs.Core.{Core}
 use Rattle.dl_core.specs.Reached.{Calls, IsReached, calls_of}
-use Rattle.dl_order.specs.Ends.{AreAllIdle, IsRunOver}
+use Rattle.dl_order.specs.Ends.{IsRunOver}
+use Rattle.dl_core.specs.Machines.{AreAllIdle}
 use Rattle.dl_schedule.specs.declared.give.Give.{Give}
 use Rattle.dl_trace.specs.Runs.{Run, give_to, started, ScheduleRun}
 

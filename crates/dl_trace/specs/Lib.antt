@@ -3,3 +3,5 @@ pub mod Lines
 pub mod Runs
 pub mod Left
 pub mod Laws
+pub mod Ran
+pub mod Going

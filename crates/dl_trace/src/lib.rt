@@ -3,5 +3,12 @@
 #![tactic(auto)]
 
 mod laws;
+mod lines;
+mod rounds;
+mod running;
+mod steps;
+mod tally;
 
 pub use laws::{scheduled_runs_are_over, scheduled_runs_end, scheduled_runs_reach};
+pub use running::run_schedule;
+pub use tally::Counts;

@@ -1,4 +1,4 @@
-use Rattle.dl_trace.proofs.Rounds.{scheduled_runs_end}
+use Rattle.dl_trace.proofs.Endings.{scheduled_runs_end}
 use Rattle.dl_trace.proofs.laws.scheduled_runs_end.Goals as goal
 
 pub returns : goal.returns
