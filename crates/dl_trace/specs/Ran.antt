@@ -27,3 +27,10 @@ pub record HasRun (machine after : Machine) (files : Calls) (schedule : List Giv
   pub counts : IfOk result (λ counts. counts ≡ record { gives = end.gives; waits = end.waits })
   pub ok : OnOk result (Passes sink out end.text sink_after out_after)
   pub err : OnErr result ((out_after ≡ broken) × Breaks sink out end.text sink_after)
+
+-- the machine has come to the end of the scheduled run, and the counts are its counts
+pub record HasRunQuietly (machine after : Machine) (files : Calls) (schedule : List Give) (counts : Counts) : Type 0 where
+  pub end : Run
+  pub run : ScheduleRun (plan_at machine) files schedule end
+  pub state : after ≡ with_state machine end.core
+  pub counts_are : counts ≡ record { gives = end.gives; waits = end.waits }

@@ -4,11 +4,13 @@
 
 mod laws;
 mod lines;
+mod quiet;
 mod rounds;
 mod running;
 mod steps;
 mod tally;
 
 pub use laws::{scheduled_runs_are_over, scheduled_runs_end, scheduled_runs_reach};
+pub use quiet::run_quiet;
 pub use running::run_schedule;
 pub use tally::Counts;
