@@ -1,8 +1,15 @@
 -- What contracts see of the machine in Rust, and the runs that it makes.
-use Rattle.std.specs.Prelude.{◌≡◌, ◌<◌, ◌≤◌, ℕ, List, length}
+use Rattle.std.specs.Prelude.{◌≡◌, ◌<◌, ◌≤◌, ℕ, List, length, [], slice_get}
+use Rattle.std.specs.FinMap as finite
+use Rattle.std.specs.Option.{option_map_or}
+use Rattle.dl_ir.specs.declared.modules.FieldDecl.{FieldDecl}
+use Rattle.dl_ir.specs.declared.modules.KindDecl.{KindDecl}
+use Rattle.dl_ir.specs.declared.modules.Module.{Module}
+use Rattle.dl_ir.specs.declared.names.Name.{Name}
+use Rattle.dl_core.specs.declared.objects.Object.{Object}
 use Rattle.dl_instr.specs.declared.code.Code.{Code}
 use Rattle.dl_core.specs.declared.stages.Stage.TheVariants as stages
-use Rattle.dl_core.specs.Heaps.{plain}
+use Rattle.dl_core.specs.Heaps.{Heap, plain}
 use Rattle.dl_core.specs.Plans.{Plan, IsPlan}
 use Rattle.dl_core.specs.Core.{Core, frame_of, fresh}
 use Rattle.dl_core.specs.Reached.{Calls, IsReached}
@@ -47,3 +54,12 @@ callers_in machine = numbers_from 1 (length machine.sizes)
 -- no caller has a call in hand
 abbrev pub AreAllIdle : Core → Type 0
 AreAllIdle core = (caller : ℕ) → (frame_of core.world caller).stage ≡ stages.Idle
+
+-- the name of a field of a kind; there is none where the kind has no such field
+abbrev pub field_of_kind : ℕ → KindDecl → List ℕ
+field_of_kind field kind = option_map_or (λ (decl : FieldDecl). decl.name) (slice_get kind.fields field) []
+
+-- the name of an object's field, by the object's kind; there is none where the object is not there
+abbrev pub field_named : Module → Heap → Name → ℕ → List ℕ
+field_named source heap name field =
+    option_map_or (λ (object : Object). option_map_or (field_of_kind field) (slice_get source.kinds object.kind) []) (finite.get heap name) []

@@ -24,6 +24,7 @@ mod recounts;
 mod rests;
 mod roots;
 mod shared;
+mod showing;
 mod stages;
 mod steps;
 mod touches;

@@ -5,7 +5,7 @@ ghost use Rattle.dl_core.specs.declared.stages.Stage.TheVariants as stages;
 ghost use Rattle.dl_core.specs.Causes.{HasCauses};
 ghost use Rattle.dl_core.specs.Core.{frame_of, stepped, with_call, entries_of, refusals_of};
 ghost use Rattle.dl_core.specs.Heaps.{plain};
-ghost use Rattle.dl_core.specs.Machines.{Machine, AreAllIdle, HasCaller, IsRunning, callers_in, opened, plan_at, with_state};
+ghost use Rattle.dl_core.specs.Machines.{Machine, AreAllIdle, HasCaller, IsRunning, callers_in, field_named, opened, plan_at, with_state};
 ghost use Rattle.dl_core.specs.Passes.{first_plan, plan_over};
 ghost use Rattle.dl_core.specs.Plans.{Plan, IsPlan};
 ghost use Rattle.dl_core.specs.Turns.{call_of};
@@ -17,10 +17,11 @@ use crate::counters::Counters;
 use crate::frames::Frame;
 use crate::objects::Object;
 use crate::openings::{first_counters, idle_frames, shared_heap};
+use crate::showing::{begun_at, field_at};
 use crate::stages::Stage;
 use crate::steps::{advance, begin};
 use dl_instr::Code;
-use dl_ir::{Call, Closed, Heap, Table};
+use dl_ir::{Call, Closed, Heap, Name, Table};
 use sqlite_items::Items;
 use std::alloc::{AllocError, Global};
 use std::marker::Model;
@@ -157,6 +158,21 @@ impl Core {
         ensures { IsTrue result ↔ ((frame_of self.now.state.world caller).stage ≡ stages.Idle) }
     {
         is_idle_at(caller, self.frames.as_slice())
+    }
+
+    /// How many operations a caller has begun.
+    pub fn begun(&self, caller: u32) -> u32
+        requires caller { HasCaller self.now caller }
+        ensures { result ≡ (frame_of self.now.state.world caller).index }
+    {
+        begun_at(caller, self.frames.as_slice())
+    }
+
+    /// The name of an object's field, by the object's kind. There is none where the object is not there.
+    pub fn field_name(&self, name: Name, field: u32) -> &[u8]
+        ensures { result.now ≡ field_named self.now.code.source self.now.state.world.heap name field }
+    {
+        field_at(self.code.source(), &self.heap, name, field)
     }
 
     /// What the run leaves: its heap, the entries and the refusals of each caller, and how many places are free.

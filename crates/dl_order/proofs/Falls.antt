@@ -49,10 +49,10 @@ module _ (f g : ℕ → ℕ) (at : ℕ) (here : f at ≡ g at + 1) (there : (n :
       below : (a b : ℕ) → a ≤ b → a ≢ b → a + 1 ≤ b
       below a b le n = omega (arith, n)
 
-begun_here : (calls : Calls) (place : ℕ) (call : Call) → place < length calls → calls_of (with_begun calls (suc place) call) (suc place) ≡ calls_of calls (suc place) ++ call ∷ []
+pub begun_here : (calls : Calls) (place : ℕ) (call : Call) → place < length calls → calls_of (with_begun calls (suc place) call) (suc place) ≡ calls_of calls (suc place) ++ call ∷ []
 begun_here calls place call lt = get_or-set_same calls place (get_or calls place [] ++ call ∷ []) [] lt
 
-begun_there : (calls : Calls) (caller other : ℕ) (call : Call) → other ≢ caller → calls_of (with_begun calls caller call) other ≡ calls_of calls other
+pub begun_there : (calls : Calls) (caller other : ℕ) (call : Call) → other ≢ caller → calls_of (with_begun calls caller call) other ≡ calls_of calls other
 begun_there calls zero other call apart = refl
 begun_there calls (suc place) zero call apart = refl
 begun_there calls (suc place) (suc other) call apart = get_or-set_other calls place other (get_or calls place [] ++ call ∷ []) [] (λ same. apart (ap suc same))

@@ -1,0 +1,8 @@
+use Rattle.dl_text.proofs.WritingLemmas.{puts_both, puts_fails}
+use Rattle.dl_trace.proofs.lines.put_word_root.Goals as goal
+
+pub returns-in_err-put : goal.returns-in_err-put
+returns-in_err-put g c = puts_fails _ c.from_residual.ensures.0 c.in_err-put.ensures
+
+pub returns : goal.returns
+returns g c = puts_both c.in_ok-put.ensures.ok c.put_dotted.ensures
