@@ -84,6 +84,7 @@ pub mod Outcomes
 pub mod InRun
 pub mod FirstRun
 pub mod Opened
+pub mod Behind
 pub mod LastRun
 pub mod Owners
 pub mod Added

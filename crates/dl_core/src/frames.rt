@@ -4,6 +4,7 @@ ghost use Rattle.std.specs.List.{list_any};
 ghost use Rattle.dl_ir.specs.References.{refers_to as refers_in, target_in as target_of_value, name_eq};
 
 use crate::lists::Row;
+use crate::queues::Queue;
 use crate::stages::{Booked, Stage};
 use dl_ir::{Emits, Entry, Name, Refusal, Table, Value};
 
@@ -38,7 +39,7 @@ pub struct Frame {
     pub spares: u32,
     pub book: Table<Booked>,
     /// The held objects that are to be let go or given up, in the order in which this is done.
-    pub loose: Row<Name>,
+    pub loose: Queue<Name>,
     /// The first field, of the object that is being given up, that may not be null yet.
     pub cursor: u32,
     /// The target of that field is sealed, and the caller has seen this.

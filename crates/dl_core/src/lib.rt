@@ -19,6 +19,7 @@ mod lists;
 mod machines;
 mod objects;
 mod openings;
+mod queues;
 mod ready;
 mod recounts;
 mod rests;

@@ -1,7 +1,6 @@
 // Lists with memory for a number of elements.
 ghost use Rattle.std.specs.Prelude.{◌≡◌, ◌<◌, ◌++◌, [], ◌∷◌, ◌≤◌, length, IfOk, insert, slice_get, slice_set};
 ghost use Rattle.std.specs.Option.{option_copied};
-ghost use Rattle.dl_core.specs.Frames.{behind_of};
 
 use sqlite_items::Items;
 use std::alloc::{AllocError, Global};
@@ -82,15 +81,6 @@ impl<T: Drop> Row<T> {
     {
         if at < self.items.len() {
             self.items[at] = item;
-        }
-    }
-
-    /// Removes the first element, if there is one.
-    pub fn drop_first(&mut self)
-        ensures { self.new ≡ record self.old { items = behind_of self.old.items } }
-    {
-        if self.items.len() > 0 {
-            self.items.remove(0);
         }
     }
 

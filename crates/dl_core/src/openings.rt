@@ -10,6 +10,7 @@ use crate::counters::Counters;
 use crate::frames::Frame;
 use crate::lists::Row;
 use crate::objects::{Mark, Object};
+use crate::queues::Queue;
 use crate::stages::Stage;
 use dl_ir::{Emits, Fields, Heap, Obj, Table};
 use std::alloc::{AllocError, Global};
@@ -95,7 +96,7 @@ fn idle_frame(alloc: Global, size: u32, room: usize) -> Result<Frame, AllocError
         emitted: Emits::new(),
         spares: 0,
         book: Table::new(alloc, room)?,
-        loose: Row::new(alloc, room)?,
+        loose: Queue::new(alloc, room)?,
         cursor: 0,
         seen: false,
         breach: None,
