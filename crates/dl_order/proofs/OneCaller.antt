@@ -299,9 +299,9 @@ module _ (plan : Plan) (is : IsPlan plan) (one : length plan.sizes ≡ 1) where
       history after ∙ ap (in_rising key) (added.entries ∙ ap (λ l. l ++ entry ∷ []) same_entries)
       ∙ rising_more key entry (entries_of core 1) [] (subst (Each (λ (x : Entry). x.ticket < entry.ticket)) (sym (append-nil (entries_of core 1))) below)
       ∙ ap (λ l. in_rising key l ++ entry ∷ []) (append-nil (entries_of core 1)) in
-      let last = last_legal (source_of plan) begun past entry (subst (IsLegalFrom (source_of plan) begun (greatest_ticket plan.heap + 1) plan.heap) now over.legal) in
+      let last = last_legal (source_of plan) begun past entry (subst (IsLegalFrom (source_of plan) begun (greatest_ticket plan.heap + 1) plan.heap) now over.legal.goes) in
       let replay : replayed (source_of plan) begun plan.heap past ≡ plain core.world.heap =
-      same_replay (source_of plan) calls begun (still_called calls 1 call) past (subst (IsLegalFrom (source_of plan) calls (greatest_ticket plan.heap + 1) plan.heap) (history core) before.legal)
+      same_replay (source_of plan) calls begun (still_called calls 1 call) past (subst (IsLegalFrom (source_of plan) calls (greatest_ticket plan.heap + 1) plan.heap) (history core) before.legal.goes)
       ∙ ap (replayed (source_of plan) calls plan.heap) (sym (history core)) ∙ sym before.heap in
       let is_call : call_at begun entry.caller entry.index ≡ Some call =
       (λ i. call_at begun (added.by_caller i) ((added.index ∙ index_is) i)) ∙ now_called calls 0 call (omega (arith, all.sound.lists, one)) in
