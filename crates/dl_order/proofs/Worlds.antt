@@ -12,7 +12,7 @@ use Rattle.dl_core.specs.declared.stages.Stage.{Stage}
 use Rattle.dl_core.specs.declared.stages.Stage.TheVariants as stages
 use Rattle.dl_core.specs.Heaps.{Heap}
 use Rattle.dl_core.specs.Plans.{Plan, IsPlan}
-use Rattle.dl_core.specs.Frames.{Frame, IsEntered, idle, at_rest}
+use Rattle.dl_core.specs.Frames.{Frame, IsEntered, idle}
 use Rattle.dl_core.specs.declared.dues.Due.{Due}
 use Rattle.dl_core.specs.declared.dues.Due.TheVariants.{Nothing, Reserves, TakesRoot, Enters, Reads, Writes, Takes, LetsGo, GivesUp, Seals, Makes, Finishes}
 use Rattle.dl_core.specs.LocalSteps.{due}
@@ -26,6 +26,7 @@ use Rattle.dl_core.proofs.Clearance.{touches_clear}
 use Rattle.dl_core.proofs.Names.{same_number}
 use Rattle.dl_core.proofs.LawfulAlways.{lawful_always}
 use Rattle.dl_core.proofs.Acting.{entered_acts}
+pub use Rattle.dl_core.proofs.Standing.{idle_rests}
 use Rattle.dl_order.proofs.Keeping.{touch_one}
 use Rattle.dl_order.proofs.Runs.{IsOrdered}
 
@@ -49,15 +50,6 @@ module _ (plan : Plan) (heap : Heap) (calls : Calls) (caller : ℕ) (frame : Fra
 
       end_not_called : (s : Stage) (end : End) → s ≡ stages.Ended end → s ≢ stages.Called
       end_not_called s end p q = cc
-
-  -- who is idle is at rest
-  pub idle_rests : Stands plan heap calls caller frame → frame.stage ≡ stages.Idle → frame ≡ at_rest frame.index frame.finished
-  idle_rests (idles e) i = e
-  idle_rests (waits call w) i = absurd (let called : frame.stage ≡ stages.Called = ap (λ (f : Frame). f.stage) w.is in clash frame.stage called i)
-    where
-      clash : (s : Stage) → s ≡ stages.Called → s ≡ stages.Idle → ⊥
-      clash s p q = cc
-  idle_rests (works call e w) i = absurd ((entered_busy (works call e w) e).0 i)
 
   -- who has not entered is idle, or has a call in hand
   pub unentered : Stands plan heap calls caller frame → frame.ticket ≡ 0 → (frame.stage ≡ stages.Idle) ⊎ (frame.stage ≡ stages.Called)
