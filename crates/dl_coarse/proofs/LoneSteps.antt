@@ -147,12 +147,11 @@ pub begins_ending : (plan : Plan) (caller : ℕ) (call : Call) (machine begun : 
 begins_ending plan caller call machine begun run may same =
     let ending = ends_begun plan run.1.is caller call machine.state may in
     let code : plan.code ≡ begun.code = run.1.code ∙ ap (λ (m : Machine). m.code) (sym same) in
-    let state : with_call machine.state caller call ≡ begun.state = ap (λ (m : Machine). m.state) (sym same) in
-    (
+    let state : with_call machine.state caller call ≡ begun.state = ap (λ (m : Machine). m.state) (sym same) in (
       ending.0,
       subst (λ (core : Core). EndsAfter (with_code begun.code) caller ending.0 (step (with_code begun.code) core caller)) state
-      (subst (EndsAfter (with_code begun.code) caller ending.0) (same_step plan begun.code (with_call machine.state caller call) caller code)
-      (same_ends plan begun.code caller ending.0 (step plan (with_call machine.state caller call) caller) code ending.1)),
+          (subst (EndsAfter (with_code begun.code) caller ending.0) (same_step plan begun.code (with_call machine.state caller call) caller code)
+          (same_ends plan begun.code caller ending.0 (step plan (with_call machine.state caller call) caller) code ending.1)),
     )
 
 -- what is left of a whole operation

@@ -62,12 +62,7 @@ impl Machine for Core {
 
     ghost state = { state_of };
 
-    fn start(
-        alloc: Global,
-        code: Code,
-        places: u32,
-        sizes: &[u32],
-    ) -> Result<Self, AllocError> {
+    fn start(alloc: Global, code: Code, places: u32, sizes: &[u32]) -> Result<Self, AllocError> {
         Core::start(alloc, code, places, sizes)
     }
 
