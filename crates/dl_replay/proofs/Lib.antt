@@ -1,3 +1,4 @@
 mod Copied
 mod Faults
 mod Going
+mod Covered

@@ -1,10 +1,11 @@
 -- The fault of a history: its first entry whose ticket is not the next one, or whose answer is not the one that its operation gives.
-use Rattle.std.specs.Prelude.{◌≡◌, ◌≢◌, ◌+◌, ◌++◌, ℕ, List, ◌∷◌, Some, length}
+use Rattle.std.specs.Prelude.{◌≡◌, ◌≢◌, ◌+◌, ◌++◌, ℕ, List, ◌∷◌, Some, length, All}
 use Rattle.dl_ir.specs.declared.answers.Answer.{Answer}
 use Rattle.dl_ir.specs.declared.answers.Entry.{Entry}
+use Rattle.dl_ir.specs.declared.answers.Refusal.{Refusal}
 use Rattle.dl_ir.specs.declared.calls.Call.{Call}
 use Rattle.dl_ir.specs.declared.modules.Module.{Module}
-use Rattle.dl_ir.specs.Cover.{call_at}
+use Rattle.dl_ir.specs.Cover.{call_at, Covers}
 use Rattle.dl_ir.specs.Heap.{Objects}
 use Rattle.dl_shape.specs.Operation.{operated}
 use Rattle.dl_shape.specs.Replay.{replayed, greatest_ticket, IsLegal}
@@ -15,6 +16,10 @@ use Rattle.dl_replay.specs.declared.replays.ReplayFault.TheVariants.{Gap, Differ
 pub record NamesOperation (files : List (List Call)) (entry : Entry) : Type 0 where
   pub call : Call
   pub is_there : call_at files entry.caller entry.index ≡ Some call
+
+-- where a history and refusals have each operation of the files once, each entry is that of an operation of the files
+abbrev pub CoveredEntriesNameOperations : Type 0
+CoveredEntriesNameOperations = (files : List (List Call)) (history : List Entry) (refusals : List Refusal) → Covers files history refusals → All (NamesOperation files) history
 
 -- the ticket that is next after these entries of a history from a heap
 abbrev pub next_ticket : Objects → List Entry → ℕ

@@ -4,4 +4,4 @@
 mod copies;
 mod replays;
 
-pub use replays::{ReplayFault, Replayed, replay};
+pub use replays::{ReplayFault, Replayed, covered_entries_name_operations, replay};

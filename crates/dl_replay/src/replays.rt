@@ -9,7 +9,7 @@ ghost use Rattle.dl_serial.specs.Rooms.{allocs_of};
 ghost use Rattle.dl_shape.specs.Replay.{replayed, greatest_ticket, IsLegal};
 ghost use Rattle.dl_shape.specs.Startable.{IsStartable};
 ghost use Rattle.dl_replay.specs.declared.replays.ReplayFault.{ReplayFault as FaultOf};
-ghost use Rattle.dl_replay.specs.Faults.{IsFault, NamesOperation};
+ghost use Rattle.dl_replay.specs.Faults.{IsFault, NamesOperation, CoveredEntriesNameOperations};
 ghost use Rattle.dl_replay.specs.Steps.{GoesOn, IsFaultHere};
 
 use crate::copies::{copied, make_room};
@@ -94,6 +94,12 @@ pub fn replay(
         entries: entries.len() as u32,
     })
 }
+
+/// Where a history and refusals have each operation of the files once, each entry of the history is that of an operation
+/// of the files.
+pub fn covered_entries_name_operations()
+    ensures { CoveredEntriesNameOperations }
+{}
 
 // Runs the operation of an entry where the entry's ticket is the next one, and compares the answers.
 fn replay_entry(
