@@ -66,7 +66,7 @@ unsealed text plain = by (behind (codes " sealed") text) plain
     by (Some (b ∷ rest)) n = ap (λ (v : Bool). if v then (true, b ∷ rest) else (false, text)) (n.no_space b rest refl)
 
 -- the names of all fields are words
-abbrev AllNamed : List FieldDecl → Type 0
+abbrev pub AllNamed : List FieldDecl → Type 0
 AllNamed [] = Unit {0}
 AllNamed (decl ∷ decls) = AllAre is_word decl.name × AllNamed decls
 
@@ -92,7 +92,7 @@ bytes_itself : (a : List ℕ) → bytes_eq a a ≡ true
 bytes_itself a = grind (arith, bytes_eq-Decides a a)
 
 -- the kind that is found has the name
-kind_read : (from : ℕ) (word : List ℕ) (kinds : List KindDecl) (found : ℕ × KindDecl) → kind_named from word kinds ≡ Some found
+pub kind_read : (from : ℕ) (word : List ℕ) (kinds : List KindDecl) (found : ℕ × KindDecl) → kind_named from word kinds ≡ Some found
     → (at : ℕ) × (found.0 ≡ from + at) × (slice_get kinds at ≡ Some found.1) × (found.1.name ≡ word)
 kind_read from word [] found is = cc
 kind_read from word (k ∷ kinds) found is = by (bytes_eq k.name word) refl is (kind_read (from + 1) word kinds found)
@@ -152,6 +152,10 @@ object_read kinds text o is =
       text_is = sym (take-append-drop (prefix_len is_word text) text) ∙ ap₂ (λ (a b : List ℕ). a ++ b) (sym found.3) told ∙ sym (append_assoc kind.0.1.name (seal_text mark.0) shown);
     })
 
+pub all_named : (decls : List FieldDecl) → ((place : ℕ) (f : FieldDecl) → slice_get decls place ≡ Some f → AllAre is_word f.name) → AllNamed decls
+all_named [] each = tt
+all_named (d ∷ decls) each = (each 0 d refl, all_named decls (λ place f there. each (suc place) f there))
+
 object_written : (source : Module) (o : Obj) → HasNames source → (form : HasForm source o) → object source.kinds (object_text o (Some form.declared)) ≡ Some o
 object_written source o names form =
     let kind = form.declared in
@@ -168,10 +172,6 @@ object_written source o names form =
     ∙ ap (λ (m : Bool × List ℕ). option_and_then (object_ended o.kind m.0) (fields kind.fields m.1)) (seal_written o.sealed kind.fields o.fields words form.fields)
     ∙ ap (option_and_then (object_ended o.kind o.sealed)) (ap (fields kind.fields) (sym (append-nil shown)) ∙ fields_written kind.fields o.fields [] form.fields tt)
   where
-    all_named : (decls : List FieldDecl) → ((place : ℕ) (f : FieldDecl) → slice_get decls place ≡ Some f → AllAre is_word f.name) → AllNamed decls
-    all_named [] each = tt
-    all_named (d ∷ decls) each = (each 0 d refl, all_named decls (λ place f there. each (suc place) f there))
-
     mark_end : (sealed : Bool) (decls : List FieldDecl) (held : List Value) → Ends is_word (seal_text sealed ++ fields_text decls held)
     mark_end true decls held = refl
     mark_end false decls held = subst (Ends is_word) (append-nil (fields_text decls held)) (fields_end is_word decls held [] refl tt)
@@ -205,13 +205,17 @@ no_feed (x ∷ a) (y ∷ b) e =
     let tails : a ++ codes "\n" ≡ b ++ codes "\n" = cc in
     ap₂ (λ (n : ℕ) (l : List ℕ). n ∷ l) heads (no_feed a b tails)
 
+pub line_is : (source : Module) (line : List ℕ) (e : Name × Obj) → (tells : TellsOf source line e) → line ≡ name_text e.0 ++ (codes " " ++ object_text e.1 (Some tells.object.declared))
+line_is source line e tells =
+    let shown = object_text e.1 (Some tells.object.declared) in
+    no_feed line (name_text e.0 ++ (codes " " ++ shown)) (
+        sym tells.text
+        ∙ ap (λ (k : Option KindDecl). name_text e.0 ++ codes " " ++ object_text e.1 k ++ codes "\n") tells.object.is_there
+        ∙ ap (λ (l : List ℕ). l ++ codes "\n") (append_assoc (name_text e.0) (codes " ") shown))
+
 pub entry_written : (source : Module) (line : List ℕ) (e : Name × Obj) → HasNames source → TellsOf source line e → entry source line ≡ Some e
 entry_written source line e names tells =
     let shown = object_text e.1 (Some tells.object.declared) in
-    let line_is : line ≡ name_text e.0 ++ (codes " " ++ shown) = no_feed line (name_text e.0 ++ (codes " " ++ shown)) (
-        sym tells.text
-        ∙ ap (λ (k : Option KindDecl). name_text e.0 ++ codes " " ++ object_text e.1 k ++ codes "\n") tells.object.is_there
-        ∙ ap (λ (l : List ℕ). l ++ codes "\n") (append_assoc (name_text e.0) (codes " ") shown)) in
-    ap (entry source) line_is
+    ap (entry source) (line_is source line e tells)
     ∙ ap (option_and_then (entry_behind source)) (name_written e.0 (codes " " ++ shown) tells.name refl)
     ∙ ap (λ (o : Option Obj). option_map (λ (x : Obj). (e.0, x)) o) (object_written source e.1 names tells.object)

@@ -10,13 +10,13 @@ use Rattle.dl_history.specs.Report.{heap_part, object_line}
 use Rattle.dl_text.specs.Bytes.{is_blank, is_digit, AllAre}
 use Rattle.dl_heapfile.specs.declared.fault.HeapFault.{HeapFault}
 use Rattle.dl_heapfile.specs.declared.fault.HeapFault.TheVariants.{BadLine}
-use Rattle.dl_heapfile.specs.Lines.{HasForm}
+use Rattle.dl_heapfile.specs.Lines.{HasForm, is_within}
 
 -- ---- where the heap part begins
 
 -- the byte goes on with a word: it is no blank and ends no line
 abbrev pub goes_on : ℕ → Bool
-goes_on b = not (is_blank b) && not (b == 10)
+goes_on b = not (is_blank b) && is_within b
 
 -- the first word of a text's first line
 abbrev pub first_word : List ℕ → List ℕ
@@ -25,7 +25,7 @@ first_word text = take_while goes_on (drop (prefix_len is_blank text) text)
 -- lines whose first word is not `heap` lead from a line of a text to a later one
 pub data Skips : ℕ → List ℕ → ℕ → List ℕ → Type 0 where
   none : {line : ℕ} {text : List ℕ} → Skips line text line text
-  one : {line to : ℕ} {found : List ℕ} (text rest : List ℕ) → AllAre (λ b. not (b == 10)) text → first_word text ≢ codes "heap" → Skips (line + 1) rest to found
+  one : {line to : ℕ} {found : List ℕ} (text rest : List ℕ) → AllAre is_within text → first_word text ≢ codes "heap" → Skips (line + 1) rest to found
       → Skips line (text ++ 10 ∷ rest) to found
 
 -- the heap part begins at this line, with the first line whose first word is `heap`

@@ -1,5 +1,5 @@
 -- Which objects a line of the heap part may tell of.
-use Rattle.std.specs.Prelude.{◌≡◌, ◌<◌, ◌≤◌, ◌^◌, ◌++◌, ◌∷◌, [], ℕ, ℤ, pos, negsuc, Some, None, List, length, slice_get, codes}
+use Rattle.std.specs.Prelude.{◌≡◌, ◌<◌, ◌≤◌, ◌^◌, ◌++◌, ◌∷◌, [], ◌==◌, not, Bool, ℕ, ℤ, pos, negsuc, Some, None, List, length, slice_get, codes}
 use Rattle.dl_ir.specs.declared.modules.FieldDecl.{FieldDecl}
 use Rattle.dl_ir.specs.declared.modules.KindDecl.{KindDecl}
 use Rattle.dl_ir.specs.declared.modules.Module.{Module}
@@ -10,6 +10,10 @@ use Rattle.dl_ir.specs.declared.names.Value.{Value}
 use Rattle.dl_ir.specs.declared.names.Value.TheVariants as values
 use Rattle.dl_ir.specs.declared.objects.Obj.{Obj}
 use Rattle.dl_history.specs.Report.{object_line}
+
+-- a byte within a line: it does not end one
+abbrev pub is_within : ℕ → Bool
+is_within b = not (b == 10)
 
 -- a number of signed 64 bits
 abbrev pub IsSmall : ℤ → Type 0

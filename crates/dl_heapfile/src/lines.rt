@@ -3,7 +3,11 @@
 ghost use Rattle.std.specs.Prelude.{◌≡◌, ◌≤◌, ◌<◌, ◌^◌, MatchOption, Some, None, IfSome, All, length, codes, drop};
 ghost use Rattle.std.specs.List.{prefix_len, take_while};
 ghost use Rattle.dl_ir.specs.declared.modules.KindDecl.{KindDecl as Declared};
+ghost use Rattle.dl_ir.specs.declared.names.Name.{Name as OneName};
+ghost use Rattle.dl_ir.specs.declared.objects.Obj.{Obj as OneObj};
 ghost use Rattle.dl_text.specs.Bytes.{is_word};
+ghost use Rattle.dl_heapfile.specs.Lines.{TellsOf};
+ghost use Rattle.dl_heapfile.specs.Names.{HasNames};
 ghost use Rattle.dl_heapfile.specs.Reading as spec;
 
 use crate::numbers::word_len;
@@ -86,8 +90,8 @@ fn object(source: &Module, text: &[u8]) -> Option<Obj>
     object_of(kind, declared, rest)
 }
 
-/// What a line, without its end, tells: an object under its name.
-pub fn read_entry(source: &Module, line: &[u8]) -> Option<(Name, Obj)>
+// What a line, without its end, tells, piece by piece.
+fn entry(source: &Module, line: &[u8]) -> Option<(Name, Obj)>
     requires few_kinds { length source.now.kinds ≤ 16 }
     requires few_fields { All (λ (k : Declared). length k.fields ≤ 16) source.now.kinds }
     ensures { result ≡ spec.entry source.now line.now }
@@ -96,4 +100,17 @@ pub fn read_entry(source: &Module, line: &[u8]) -> Option<(Name, Obj)>
     let rest = behind(b" ", rest)?;
     let object = object(source, rest)?;
     Some((name, object))
+}
+
+/// What a line of a heap part, without its end, tells: an object under its name. It tells at most one.
+pub fn read_entry(source: &Module, line: &[u8]) -> Option<(Name, Obj)>
+    requires few_kinds { length source.now.kinds ≤ 16 }
+    requires few_fields { All (λ (k : Declared). length k.fields ≤ 16) source.now.kinds }
+    requires names { HasNames source.now }
+
+    // What is answered is told, and what is told is answered.
+    ensures found { IfSome result (TellsOf source.now line.now) }
+    ensures only { (told : OneName × OneObj) → TellsOf source.now line.now told → result ≡ Some told }
+{
+    entry(source, line)
 }
