@@ -1,7 +1,9 @@
 -- The line of an object has no line feed in it, so it is the first line of each text that it begins.
-use Rattle.std.proofs.Common.{◌≡◌, ℕ, ℤ, zero, suc, ◌+◌, ◌<◌, Bool, true, false, not, List, [], ◌∷◌, ◌++◌, length, refl, sym, ap, ap₂, subst, ◌∙◌, Option, Some, None, arith, pos, negsuc, append_assoc}
+use Rattle.std.proofs.Common.{◌≡◌, ℕ, ℤ, zero, suc, ◌+◌, ◌-◌, ◌<◌, ◌≤◌, Bool, true, false, not, List, [], ◌∷◌, ◌++◌, length, refl, sym, ap, ap₂, subst, ◌∙◌, Option, Some, None, arith, pos, negsuc, append_assoc, take, drop}
 use Rattle.std.specs.Prelude.{◌==◌, ◌^◌, codes, decimal, slice_get}
 use Rattle.std.specs.Fmt.{signed_decimal}
+use Rattle.std.specs.List.{prefix_len}
+use Rattle.std.proofs.lemmas.List.{take-append-drop, append-nil}
 use Rattle.std.proofs.lemmas.Bool.Decides.{nat_tests}
 use Rattle.dl_ir.specs.declared.modules.FieldDecl.{FieldDecl}
 use Rattle.dl_ir.specs.declared.modules.KindDecl.{KindDecl}
@@ -14,9 +16,10 @@ use Rattle.dl_ir.specs.declared.names.Value.TheVariants as values
 use Rattle.dl_ir.specs.declared.objects.Obj.{Obj}
 use Rattle.dl_history.specs.Report.{name_text, value_text, field_text, seal_text, object_text, object_line}
 use Rattle.dl_text.specs.Bytes.{is_digit, is_word, AllAre}
-use Rattle.dl_heapfile.specs.Lines.{IsSmall, IsSmallName, MayHold, AllMayHold, HasForm, TellsOf, is_within}
+use Rattle.dl_text.specs.Text.{Ends}
+use Rattle.dl_heapfile.specs.Lines.{IsSmall, IsSmallName, MayHold, AllMayHold, HasForm, TellsOf, BeginsWith, is_within}
 use Rattle.dl_heapfile.specs.Names.{HasNames}
-use Rattle.dl_heapfile.proofs.NumbersRead.{decimal_digits}
+use Rattle.dl_heapfile.proofs.NumbersRead.{decimal_digits, front_all, front_ends}
 use Rattle.dl_heapfile.proofs.ValuesRead.{fields_text}
 use Rattle.dl_heapfile.proofs.LinesRead.{AllNamed, all_named, line_is}
 
@@ -114,3 +117,42 @@ told_none source text rest e names small form within is =
     no_feed_in : (a more : List ℕ) → AllAre is_within (a ++ (10 ∷ more)) → ⊥
     no_feed_in [] more all = let wrong : is_within 10 ≡ true = all.0 in cc
     no_feed_in (x ∷ a) more all = no_feed_in a more all.1
+
+-- the front of a text up to its first line feed, if it has one
+pub cut_line : (text line rest : List ℕ) (b : ℕ) (more : List ℕ) → line ≡ take (prefix_len is_within text) text → rest ≡ drop (prefix_len is_within text) text → rest ≡ b ∷ more
+    → AllAre is_within line × (text ≡ line ++ (10 ∷ more))
+cut_line text line rest b more front back is =
+    let behind : drop (prefix_len is_within text) text ≡ b ∷ more = sym back ∙ is in
+    let stops : is_within b ≡ false = subst (Ends is_within) behind (front_ends is_within text) in
+    let feed : b ≡ 10 = grind (arith, nat_tests, stops) in (
+      subst (AllAre is_within) (sym front) (front_all is_within text),
+      sym (take-append-drop (prefix_len is_within text) text) ∙ ap₂ (λ (a b : List ℕ). a ++ b) (sym front) (behind ∙ ap (λ (n : ℕ). n ∷ more) feed),
+    )
+
+pub uncut : (text rest : List ℕ) → rest ≡ drop (prefix_len is_within text) text → rest ≡ [] → AllAre is_within text
+uncut text rest back is =
+    subst (AllAre is_within) (sym (append-nil (take (prefix_len is_within text) text)) ∙ ap (λ (l : List ℕ). take (prefix_len is_within text) text ++ l) (sym is ∙ back) ∙ take-append-drop (prefix_len is_within text) text) (front_all is_within text)
+
+-- the line that is read, as the front of the text
+pub front_told : (source : Module) (text line rest : List ℕ) (e : Name × Obj) → AllAre is_within line × (text ≡ line ++ (10 ∷ rest)) → TellsOf source line e → BeginsWith source text e rest
+front_told source text line rest e cut tells = record { name = tells.name; object = tells.object; text_is = cut.1 ∙ begins_told source line rest e tells }
+
+take_whole : (xs : List ℕ) → take (length xs) xs ≡ xs
+take_whole [] = refl
+take_whole (x ∷ xs) = ap (λ (l : List ℕ). x ∷ l) (take_whole xs)
+
+-- the same, by the length of what is left
+pub cut_long : (text line rest : List ℕ) → line ≡ take (prefix_len is_within text) text → rest ≡ drop (prefix_len is_within text) text → 1 ≤ length rest
+    → AllAre is_within line × (text ≡ line ++ (10 ∷ take (length rest - 1) (drop 1 rest)))
+cut_long text line [] front back long = absurd (omega (arith, long))
+cut_long text line (b ∷ more) front back long =
+    let cut = cut_line text line (b ∷ more) b more front back refl in
+    let same : take (length (b ∷ more) - 1) more ≡ more = ap (λ n. take n more) {x = length (b ∷ more) - 1} {y = length more} (omega arith) ∙ take_whole more in
+    (cut.0, cut.1 ∙ ap (λ (l : List ℕ). line ++ (10 ∷ l)) (sym same))
+
+no_length : (xs : List ℕ) → length xs < 1 → xs ≡ []
+no_length [] short = refl
+no_length (x ∷ xs) short = absurd (omega (arith, short))
+
+pub uncut_short : (text rest : List ℕ) → rest ≡ drop (prefix_len is_within text) text → length rest < 1 → AllAre is_within text
+uncut_short text rest back short = uncut text rest back (no_length rest short)

@@ -6,11 +6,11 @@ use Rattle.dl_ir.specs.declared.modules.Module.{Module}
 use Rattle.dl_ir.specs.declared.names.Name.{Name}
 use Rattle.dl_ir.specs.declared.objects.Obj.{Obj}
 use Rattle.dl_ir.specs.Heap.{Objects, IsRootOf, IsNodeKind, name_cmp, root, roots_of}
-use Rattle.dl_history.specs.Report.{heap_part, object_line}
+use Rattle.dl_history.specs.Report.{heap_part}
 use Rattle.dl_text.specs.Bytes.{is_blank, is_digit, AllAre}
 use Rattle.dl_heapfile.specs.declared.fault.HeapFault.{HeapFault}
 use Rattle.dl_heapfile.specs.declared.fault.HeapFault.TheVariants.{BadLine}
-use Rattle.dl_heapfile.specs.Lines.{HasForm, is_within}
+use Rattle.dl_heapfile.specs.Lines.{BeginsWith, is_within}
 
 -- ---- where the heap part begins
 
@@ -67,8 +67,7 @@ pub data MayFollow (source : Module) (before : List (Name × Obj)) (entry : Name
 -- a line of an object that may stand here comes next
 pub record IsNext (source : Module) (before : List (Name × Obj)) (text : List ℕ) (entry : Name × Obj) (rest : List ℕ) : Type 0 where
   pub follows : MayFollow source before entry
-  pub form : HasForm source entry.1
-  pub text_is : text ≡ object_line source entry ++ rest
+  pub begins : BeginsWith source text entry rest
 
 -- the last line comes next, where it may stand
 pub record IsLast (source : Module) (before : List (Name × Obj)) (text rest : List ℕ) : Type 0 where

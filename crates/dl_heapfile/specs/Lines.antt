@@ -51,3 +51,9 @@ pub record TellsOf (source : Module) (line : List ℕ) (entry : Name × Obj) : T
   pub name : IsSmallName entry.0
   pub object : HasForm source entry.1
   pub text : object_line source entry ≡ line ++ codes "\n"
+
+-- a text begins with the line of an object under a name, and this follows
+pub record BeginsWith (source : Module) (text : List ℕ) (entry : Name × Obj) (rest : List ℕ) : Type 0 where
+  pub name : IsSmallName entry.0
+  pub object : HasForm source entry.1
+  pub text_is : text ≡ object_line source entry ++ rest

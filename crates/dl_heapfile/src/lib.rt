@@ -8,4 +8,4 @@ mod numbers;
 mod values;
 
 pub use fault::HeapFault;
-pub use lines::read_entry;
+pub use lines::{first_line, next_object};

@@ -1,12 +1,12 @@
 //! The lines that tell of objects.
 
-ghost use Rattle.std.specs.Prelude.{◌≡◌, ◌≤◌, ◌<◌, ◌^◌, MatchOption, Some, None, IfSome, All, length, codes, drop};
+ghost use Rattle.std.specs.Prelude.{◌≡◌, ◌≤◌, ◌<◌, ◌^◌, ◌++◌, ◌∷◌, List, ℕ, MatchOption, Some, None, IfSome, All, length, codes, drop};
 ghost use Rattle.std.specs.List.{prefix_len, take_while};
 ghost use Rattle.dl_ir.specs.declared.modules.KindDecl.{KindDecl as Declared};
 ghost use Rattle.dl_ir.specs.declared.names.Name.{Name as OneName};
 ghost use Rattle.dl_ir.specs.declared.objects.Obj.{Obj as OneObj};
-ghost use Rattle.dl_text.specs.Bytes.{is_word};
-ghost use Rattle.dl_heapfile.specs.Lines.{TellsOf};
+ghost use Rattle.dl_text.specs.Bytes.{is_word, AllAre};
+ghost use Rattle.dl_heapfile.specs.Lines.{BeginsWith, TellsOf, is_within};
 ghost use Rattle.dl_heapfile.specs.Names.{HasNames};
 ghost use Rattle.dl_heapfile.specs.Reading as spec;
 
@@ -102,8 +102,8 @@ fn entry(source: &Module, line: &[u8]) -> Option<(Name, Obj)>
     Some((name, object))
 }
 
-/// What a line of a heap part, without its end, tells: an object under its name. It tells at most one.
-pub fn read_entry(source: &Module, line: &[u8]) -> Option<(Name, Obj)>
+// What a line of a heap part, without its end, tells: an object under its name. It tells at most one.
+fn read_entry(source: &Module, line: &[u8]) -> Option<(Name, Obj)>
     requires few_kinds { length source.now.kinds ≤ 16 }
     requires few_fields { All (λ (k : Declared). length k.fields ≤ 16) source.now.kinds }
     requires names { HasNames source.now }
@@ -113,4 +113,36 @@ pub fn read_entry(source: &Module, line: &[u8]) -> Option<(Name, Obj)>
     ensures only { (told : OneName × OneObj) → TellsOf source.now line.now told → result ≡ Some told }
 {
     entry(source, line)
+}
+
+// How many bytes come before the first line feed.
+fn line_len(bytes: &[u8]) -> usize
+    ensures run { result ≡ prefix_len is_within bytes.now }
+    ensures within { result ≤ length bytes.now }
+{
+    bytes.iter().take_while(|b| **b != b'\n').count()
+}
+
+/// The first line of a text, without its line feed, and what follows that; none where there is no line feed.
+pub fn first_line(text: &[u8]) -> Option<(&[u8], &[u8])>
+    ensures { MatchOption result (AllAre is_within text.now) (λ cut. AllAre is_within cut.0.now × (text.now ≡ cut.0.now ++ (10 ∷ cut.1.now))) }
+{
+    let (line, rest) = text.split_at(line_len(text));
+    match rest {
+        [_, more @ ..] => Some((line, more)),
+        [] => None,
+    }
+}
+
+/// The object whose line comes next in a text, under its name, and what follows.
+pub fn next_object<'a>(source: &Module, text: &'a [u8]) -> Option<((Name, Obj), &'a [u8])>
+    requires few_kinds { length source.now.kinds ≤ 16 }
+    requires few_fields { All (λ (k : Declared). length k.fields ≤ 16) source.now.kinds }
+    requires names { HasNames source.now }
+    ensures found { IfSome result (λ found. BeginsWith source.now text.now found.0 found.1.now) }
+    ensures only { (told : OneName × OneObj) (rest : List ℕ) → BeginsWith source.now text.now told rest → MatchOption result ⊥ (λ found. (found.0 ≡ told) × (found.1.now ≡ rest)) }
+{
+    let (line, rest) = first_line(text)?;
+    let entry = read_entry(source, line)?;
+    Some((entry, rest))
 }
