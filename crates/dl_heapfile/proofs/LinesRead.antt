@@ -209,9 +209,9 @@ pub line_is : (source : Module) (line : List ℕ) (e : Name × Obj) → (tells :
 line_is source line e tells =
     let shown = object_text e.1 (Some tells.object.declared) in
     no_feed line (name_text e.0 ++ (codes " " ++ shown)) (
-        sym tells.text
-        ∙ ap (λ (k : Option KindDecl). name_text e.0 ++ codes " " ++ object_text e.1 k ++ codes "\n") tells.object.is_there
-        ∙ ap (λ (l : List ℕ). l ++ codes "\n") (append_assoc (name_text e.0) (codes " ") shown))
+    sym tells.text
+    ∙ ap (λ (k : Option KindDecl). name_text e.0 ++ codes " " ++ object_text e.1 k ++ codes "\n") tells.object.is_there
+    ∙ ap (λ (l : List ℕ). l ++ codes "\n") (append_assoc (name_text e.0) (codes " ") shown))
 
 pub entry_written : (source : Module) (line : List ℕ) (e : Name × Obj) → HasNames source → TellsOf source line e → entry source line ≡ Some e
 entry_written source line e names tells =

@@ -130,9 +130,9 @@ field_read decl text found is =
     let read = typed_read decl.ty value.0 found value.2 in
     let shown = value_text found.0 in (
       behind_read (codes " ") text named.0 named.1
-      ∙ ap (λ (l : List ℕ). codes " " ++ l) (behind_read decl.name named.0 equals.0 named.2
-      ∙ ap (λ (l : List ℕ). decl.name ++ l) (behind_read (codes "=") equals.0 value.0 equals.2 ∙ ap (λ (l : List ℕ). codes "=" ++ l) read.text_is))
-      ∙ sym (assoc4 (codes " ") decl.name (codes "=") shown found.1),
+          ∙ ap (λ (l : List ℕ). codes " " ++ l) (behind_read decl.name named.0 equals.0 named.2
+          ∙ ap (λ (l : List ℕ). decl.name ++ l) (behind_read (codes "=") equals.0 value.0 equals.2 ∙ ap (λ (l : List ℕ). codes "=" ++ l) read.text_is))
+          ∙ sym (assoc4 (codes " ") decl.name (codes "=") shown found.1),
       read.holds,
     )
 
