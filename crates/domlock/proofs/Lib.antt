@@ -13,3 +13,4 @@ mod CountLemmas
 mod PlanLemmas
 mod OverLemmas
 mod PromiseLemmas
+pub mod Sent
