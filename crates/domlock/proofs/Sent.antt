@@ -22,12 +22,23 @@ code_send = search (crosses, expressions.crosses, statements.crosses, kind_decl.
 pub inside_send : IsSend inside.the_row
 inside_send = declared_send inside.the_type (
   search (code_send, sendable) depth 20,
-  (search sendable depth 20,
-  (search (crosses, items.the_send, sendable) depth 20 fits 20000,
-  (search (object.the_send, table.the_send, crosses, sendable) depth 20 fits 20000,
-  (search (frame.the_send, crosses, sendable) depth 20 fits 20000,
-  (search (counters.the_send, sendable) depth 20,
-  (search (leavings.the_send, sendable) depth 20, tt)))))))
+  (
+    search sendable depth 20,
+    (
+      search (crosses, items.the_send, sendable) depth 20 fits 20000,
+      (
+        search (object.the_send, table.the_send, crosses, sendable) depth 20 fits 20000,
+        (
+          search (frame.the_send, crosses, sendable) depth 20 fits 20000,
+          (
+            search (counters.the_send, sendable) depth 20,
+            (search (leavings.the_send, sendable) depth 20, tt),
+          ),
+        ),
+      ),
+    ),
+  ),
+)
 
 pub core_send : IsSend core.the_row
 core_send = search (inside_send, sendable) depth 20

@@ -53,15 +53,7 @@ fn main(rt: HostRuntime) -> ExitCode {
         Ok(words) => {
             let mut files = RealFiles::new(&rt);
             let mut sink = RealSink::new(rt.stdout());
-            domlock(
-                &rt,
-                rt.alloc(),
-                &words,
-                &mut files,
-                &mut sink,
-                &Open,
-            )
-            .status
+            domlock(&rt, rt.alloc(), &words, &mut files, &mut sink, &Open).status
         }
         Err(fault) => fault.status(),
     };
