@@ -1,7 +1,7 @@
 //! What operations that emit numbers answer, and what is refused. The folder examples/ has the same modules.
 
-use crate::status::{Status, exit_code};
 use crate::tests::{call, line_of};
+use dl_command::{Status, exit_code};
 use dl_io::MemSink;
 use std::test::Fail;
 

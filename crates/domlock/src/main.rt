@@ -4,26 +4,17 @@
 
 #[cfg(test)]
 mod emit_tests;
-mod loading;
-mod reading;
 #[cfg(test)]
 mod rows;
-mod run;
-mod show;
-mod status;
 #[cfg(test)]
 mod tests;
-mod top;
-mod words;
 
+use dl_command::{Words, WordsFault, domlock, exit_code, status_line};
 use dl_io::{RealFiles, RealSink};
 use dl_machine::Open;
 use dl_text::Out;
-use status::{exit_code, status_line};
 use std::io::ErrorKind;
 use std::process::ExitCode;
-use top::domlock;
-use words::{Words, WordsFault};
 
 // The words behind the program's name. A word that is no UTF-8 is no good word.
 fn read_words(rt: &HostRuntime) -> Result<Words, WordsFault> {

@@ -1,6 +1,6 @@
 //! Whole runs: what `serial` prints of a module and its operations. The folder examples/ has the same texts.
-use crate::status::Status;
 use crate::tests::call;
+use dl_command::Status;
 use dl_io::MemSink;
 use dl_modules::{LISTS, SKEW, TREAP};
 use std::test::Fail;

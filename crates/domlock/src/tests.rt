@@ -2,9 +2,7 @@
 
 ghost use Rattle.std.specs.Prelude.{◌≤◌};
 
-use crate::status::{OpsWhy, Status, exit_code, status_line};
-use crate::top::{Outcome, domlock, domlock_still};
-use crate::words::Words;
+use dl_command::{OpsWhy, Outcome, Status, Words, domlock, domlock_still, exit_code, status_line};
 use dl_io::{MemFiles, MemSink};
 use dl_machine::Open;
 use dl_modules::{COUNTER, SKEW};

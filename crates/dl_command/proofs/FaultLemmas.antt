@@ -1,0 +1,115 @@
+-- A text is one module, or has one fault.
+use Rattle.std.proofs.Common.{◌≡◌, ℕ, List, Result, Ok, Err, refl, sym, ◌∙◌, ap, subst}
+use Rattle.dl_ir.specs.declared.modules.Module.{Module}
+use Rattle.dl_ir.specs.declared.calls.Call.{Call}
+use Rattle.dl_grammar.specs.Texts.{IsSyntaxFault}
+use Rattle.dl_grammar.specs.declared.fault.SyntaxFault.{SyntaxFault}
+use Rattle.dl_grammar.specs.declared.fault.SyntaxFault.TheVariants as syntax
+use Rattle.dl_grammar.proofs.Whole.{one_tree, one_syntax_fault, tree_or_fault}
+use Rattle.dl_types.specs.Rules.{IsTree}
+use Rattle.dl_types.proofs.TreeLaws.{one_outcome}
+use Rattle.dl_types.specs.declared.fault.TypeFault.{TypeFault}
+use Rattle.dl_types.specs.declared.fault.TypeFault.TheVariants as types
+use Rattle.dl_syntax.specs.Rules.{IsCallsFile}
+use Rattle.dl_syntax.proofs.RuleLaws.{one_calls_fault, no_calls_fault}
+use Rattle.dl_syntax.specs.declared.calls.CallsFault.{CallsFault}
+use Rattle.dl_syntax.specs.declared.calls.CallsFault.TheVariants as faults
+use Rattle.dl_command.specs.declared.status.Status.{Status}
+use Rattle.dl_command.specs.declared.status.Status.TheVariants as statuses
+use Rattle.dl_command.specs.declared.status.ModuleWhy.{ModuleWhy}
+use Rattle.dl_command.specs.declared.status.ModuleWhy.TheVariants as modules
+use Rattle.dl_command.specs.declared.status.OpsWhy.{OpsWhy}
+use Rattle.dl_command.specs.declared.status.OpsWhy.TheVariants as whys
+use Rattle.dl_command.specs.Loading.{syntax_status, type_status}
+use Rattle.dl_command.specs.Texts.{IsModuleText, HasTypeFault, IsModuleFault, IsOpsFault, calls_fault}
+use Rattle.dl_command.specs.Words.{Text}
+
+-- a fault of a module text is one of its tokens or one of its tree
+data Fault (text : Text) (answer : Status) : Type 0 where
+  of_tokens : (fault : SyntaxFault) → IsSyntaxFault text fault → syntax_status fault ≡ answer → Fault text answer
+  of_tree : (fault : TypeFault) → HasTypeFault text fault → type_status fault ≡ answer → Fault text answer
+
+view : (text : Text) (line : ℕ) (why : ModuleWhy) → IsModuleFault text line why → Fault text (statuses.ModuleFault line why)
+view text line modules.NotAscii is = Fault.of_tokens (syntax.NotAscii is.0 line) is.1 refl
+view text line modules.BadByte is = Fault.of_tokens (syntax.BadByte is.0 line) is.1 refl
+view text line modules.BigNumber is = Fault.of_tokens (syntax.BigNumber is.0 line) is.1 refl
+view text line modules.Expected is = Fault.of_tokens (syntax.Expected line) is refl
+view text line modules.TooDeep is = Fault.of_tokens (syntax.TooDeep line) is refl
+view text line (modules.Limit which) is = Fault.of_tokens (syntax.Limit line which) is refl
+view text line modules.Twice is = Fault.of_tree (types.Twice line) is refl
+view text line modules.Unknown is = Fault.of_tree (types.Unknown line) is refl
+view text line modules.KindClash is = Fault.of_tree (types.KindClash line) is refl
+view text line modules.RootInField is = Fault.of_tree (types.RootInField line) is refl
+view text line modules.NewRoot is = Fault.of_tree (types.NewRoot line) is refl
+view text line modules.AssignRoot is = Fault.of_tree (types.AssignRoot line) is refl
+view text line modules.NoRoots is = Fault.of_tree (types.NoRoots line) is refl
+
+one_ok : {E : Type 0} {T : Type 0} {a b : T} → ◌≡◌ {A = Result T E} (Ok a) (Ok b) → a ≡ b
+one_ok same = cc
+
+one_err : {E : Type 0} {T : Type 0} {a b : E} → ◌≡◌ {A = Result T E} (Err a) (Err b) → a ≡ b
+one_err same = cc
+
+ok_or_err : {P E : Type 0} {T : Type 0} {a : T} {b : E} → ◌≡◌ {A = Result T E} (Ok a) (Err b) → P
+ok_or_err same = absurd (cc)
+
+-- a text is one module
+pub one_source : (text : Text) (a b : Module) → IsModuleText text a → IsModuleText text b → a ≡ b
+one_source text a b is_a is_b =
+    let tree = one_tree text is_a.tree is_b.tree is_a.spelled is_b.spelled in
+    one_ok (one_outcome is_b.tree (Ok a) (Ok b) (subst (λ t. IsTree t (Ok a)) tree is_a.typed) is_b.typed)
+
+-- a module has no fault
+clash : {P : Type 0} (text : Text) (source : Module) (answer : Status) → IsModuleText text source → Fault text answer → P
+clash text source answer is (Fault.of_tokens fault at_fault is_answer) = absurd (tree_or_fault text is.tree fault is.spelled at_fault)
+clash text source answer is (Fault.of_tree fault at_fault is_answer) =
+    let tree = one_tree text is.tree at_fault.tree is.spelled at_fault.spelled in
+    ok_or_err (one_outcome at_fault.tree (Ok source) (Err fault) (subst (λ t. IsTree t (Ok source)) tree is.typed) at_fault.at_fault)
+
+pub module_or_fault : {P : Type 0} (text : Text) (source : Module) (line : ℕ) (why : ModuleWhy) → IsModuleText text source → IsModuleFault text line why → P
+module_or_fault text source line why is fault = clash text source _ is (view text line why fault)
+
+-- and else it has one
+same_answer : (text : Text) (a b : Status) → Fault text a → Fault text b → a ≡ b
+same_answer text a b (Fault.of_tokens f at_f is_a) (Fault.of_tokens g at_g is_b) =
+    sym is_a ∙ ap syntax_status (one_syntax_fault text f g at_f at_g) ∙ is_b
+same_answer text a b (Fault.of_tokens f at_f is_a) (Fault.of_tree g at_g is_b) = absurd (tree_or_fault text at_g.tree f at_g.spelled at_f)
+same_answer text a b (Fault.of_tree f at_f is_a) (Fault.of_tokens g at_g is_b) = absurd (tree_or_fault text at_f.tree g at_f.spelled at_g)
+same_answer text a b (Fault.of_tree f at_f is_a) (Fault.of_tree g at_g is_b) =
+    let tree = one_tree text at_f.tree at_g.tree at_f.spelled at_g.spelled in
+    sym is_a ∙ ap type_status (one_err (one_outcome at_g.tree (Err f) (Err g) (subst (λ t. IsTree t (Err f)) tree at_f.at_fault) at_g.at_fault)) ∙ is_b
+
+pub one_module_fault : (text : Text) (line other : ℕ) (why otherwise : ModuleWhy) → IsModuleFault text line why → IsModuleFault text other otherwise →
+    statuses.ModuleFault line why ≡ statuses.ModuleFault other otherwise
+one_module_fault text line other why otherwise is is_other = same_answer text _ _ (view text line why is) (view text other otherwise is_other)
+
+-- the status of a fault of an operation file
+abbrev ops_status : ℕ → CallsFault → Status
+ops_status file (faults.NotAscii line) = statuses.OpsFault file line whys.NotAscii
+ops_status file (faults.BadByte line) = statuses.OpsFault file line whys.BadByte
+ops_status file (faults.TooMany line) = statuses.OpsFault file line whys.TooMany
+ops_status file (faults.NoOp line) = statuses.OpsFault file line whys.NoOp
+ops_status file (faults.ArgCount line) = statuses.OpsFault file line whys.ArgCount
+ops_status file (faults.NotNumber line) = statuses.OpsFault file line whys.NotNumber
+ops_status file (faults.NoRoot line) = statuses.OpsFault file line whys.NoRoot
+ops_status file faults.Memory = statuses.Memory
+
+named : (file line : ℕ) (why : OpsWhy) → ops_status file (calls_fault line why) ≡ statuses.OpsFault file line why
+named file line whys.NotAscii = refl
+named file line whys.BadByte = refl
+named file line whys.TooMany = refl
+named file line whys.NoOp = refl
+named file line whys.ArgCount = refl
+named file line whys.NotNumber = refl
+named file line whys.NoRoot = refl
+
+-- an operation file has at most one fault
+pub one_ops_fault : (source : Module) (text : Text) (file line other : ℕ) (why otherwise : OpsWhy) → IsOpsFault source text line why →
+    IsOpsFault source text other otherwise → statuses.OpsFault file line why ≡ statuses.OpsFault file other otherwise
+one_ops_fault source text file line other why otherwise is is_other =
+    sym (named file line why) ∙ ap (ops_status file) (one_calls_fault source text (calls_fault line why) (calls_fault other otherwise) is is_other) ∙ named file other otherwise
+
+-- and has none where it says calls
+pub calls_or_fault : {P : Type 0} (source : Module) (text : Text) (calls : List Call) (line : ℕ) (why : OpsWhy) → IsCallsFile source text calls →
+    IsOpsFault source text line why → P
+calls_or_fault source text calls line why is fault = absurd (no_calls_fault source text calls (calls_fault line why) is fault)

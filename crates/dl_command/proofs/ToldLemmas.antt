@@ -1,0 +1,151 @@
+-- What is told of a file, and what a call finds there.
+use Rattle.std.proofs.Common.{◌≡◌, ℕ, zero, suc, ◌<◌, ◌≤◌, List, [], ◌∷◌, Option, Some, IfSome, length, take, refl, sym, ◌∙◌, ap, subst, arith}
+use Rattle.std.specs.Prelude.{slice_get}
+use Rattle.std.proofs.lemmas.Bool.{ne_eqb}
+use Rattle.dl_io.specs.Source.{Source, Tells}
+use Rattle.dl_ir.specs.declared.modules.Module.{Module}
+use Rattle.dl_ir.specs.declared.calls.Call.{Call}
+use Rattle.dl_grammar.specs.declared.tree.Tree.{Tree}
+use Rattle.dl_command.specs.declared.status.Status.{Status}
+use Rattle.dl_command.specs.declared.status.Status.TheVariants as statuses
+use Rattle.dl_command.specs.Causes.{NoModule, NoCalls}
+use Rattle.dl_command.specs.Reading.{ReadCause, Fails, IsTooLong}
+use Rattle.dl_command.specs.Texts.{IsFile, AreFiles, IsModuleFile, IsModuleText, IsModuleFault, IsOpsFault}
+use Rattle.dl_command.specs.Told.{IsTold, TellsModule, TellsCalls, RefusesModule, RefusesCalls, EndsWith}
+use Rattle.dl_command.specs.Words.{Text, limit_of}
+use Rattle.dl_command.proofs.FaultLemmas.{one_source, module_or_fault, one_module_fault, one_ops_fault, calls_or_fault}
+
+-- the limit of each file behind the module
+later_limit : (file : ℕ) → 0 < file → limit_of file ≡ limit_of 1
+later_limit file more = rw (ne_eqb file 0 (λ e. omega (arith, e)))
+
+-- what is told is what is found
+same_text : (told : Option Text) (text found : Text) → told ≡ Some text → Tells told found → text ≡ found
+same_text told text found is tells = subst (λ (o : Option Text). IfSome o (λ b. b ≡ found)) is tells
+
+long_text : (told : Option Text) (text : Text) (limit : ℕ) → told ≡ Some text → IfSome told (λ bytes. limit < length bytes) → limit < length text
+long_text told text limit is long = subst (λ (o : Option Text). IfSome o (λ bytes. limit < length bytes)) is long
+
+-- a text is not within a limit and beyond it
+too_much : {P : Type 0} (a b : Text) (limit : ℕ) → a ≡ b → length a ≤ limit → limit < length b → P
+too_much a b limit same short long = absurd (omega (arith, ap length same, short, long))
+
+-- why a file was not read to its end
+data Unread (file : ℕ) (path : Text) (old new : Source) (status : Status) : Type 0 where
+  failed : status ≡ statuses.ReadFault file → Fails file path old new → Unread file path old new status
+  beyond : status ≡ statuses.TooLong file → IsTooLong file path (limit_of file) old new → Unread file path old new status
+  memory : status ≡ statuses.Memory → Unread file path old new status
+
+unread : (status : Status) (file : ℕ) (path : Text) (old new : Source) → ReadCause status file path old new → Unread file path old new status
+unread (statuses.ReadFault f) file path old new cause = Unread.failed (ap statuses.ReadFault cause.0) cause.1
+unread (statuses.TooLong f) file path old new cause = Unread.beyond (ap statuses.TooLong cause.0) cause.1
+unread statuses.Memory file path old new cause = Unread.memory refl
+unread statuses.Done file path old new cause = absurd cause
+unread statuses.Usage file path old new cause = absurd cause
+unread (statuses.ModuleFault line why) file path old new cause = absurd cause
+unread (statuses.OpsFault f line why) file path old new cause = absurd cause
+unread statuses.WriteFault file path old new cause = absurd cause
+
+-- why a file was not taken that is told and is what it should be
+pub data Untaken (file : ℕ) (path : Text) (old new : Source) (status : Status) : Type 0 where
+  failed : status ≡ statuses.ReadFault file → Fails file path old new → Untaken file path old new status
+  memory : status ≡ statuses.Memory → Untaken file path old new status
+
+module _ {path : Text} {old new : Source} {status : Status} where
+  read_told : {file : ℕ} {text : Text} → IsTold old file path text → Unread file path old new status → Untaken file path old new status
+  read_told told (Unread.failed is fails) = Untaken.failed is fails
+  read_told {file = file} {text = text} told (Unread.beyond is long) = too_much text text (limit_of file) refl told.short (long_text _ text (limit_of file) told.told long.long)
+  read_told told (Unread.memory is) = Untaken.memory is
+
+  pub module_untaken : {source : Module} → TellsModule old path source → NoModule path old new status → Untaken 0 path old new status
+  module_untaken tells (NoModule.unread cause) = read_told tells.is_told (unread status 0 path old new cause)
+  module_untaken tells (NoModule.no_memory is within) = Untaken.memory is
+  module_untaken {source = source} tells (NoModule.at_fault line why text is told short is_fault within) =
+      let same = same_text _ tells.text text tells.is_told.told told in
+      module_or_fault text source line why (subst (λ t. IsModuleText t source) same tells.spells) is_fault
+
+  pub calls_untaken : {source : Module} {file : ℕ} → 0 < file → TellsCalls source old path → NoCalls source file path old new status → Untaken file path old new status
+  calls_untaken {file = file} more tells (NoCalls.unread cause) =
+      read_told (record { told = tells.is_told.told; short = rw (later_limit file more) tells.is_told.short }) (unread status file path old new cause)
+  calls_untaken more tells (NoCalls.no_memory is within) = Untaken.memory is
+  calls_untaken {source = source} more tells (NoCalls.at_fault line why text is told short is_fault within) =
+      let same = same_text _ tells.text text tells.is_told.told told in
+      calls_or_fault source text tells.calls line why (rw (← same) tells.spells) is_fault
+
+  -- a refusal that is called for is answered
+  read_refused : {file : ℕ} {answer : Status} → Unread file path old new status → (IsTooLong file path (limit_of file) old new → statuses.TooLong file ≡ answer) → EndsWith file answer status
+  read_refused {file = file} (Unread.failed is fails) called = EndsWith.unread file (omega arith) is
+  read_refused (Unread.beyond is long) called = EndsWith.answered (is ∙ called long)
+  read_refused (Unread.memory is) called = EndsWith.no_memory is
+
+  pub module_refused : {answer : Status} → RefusesModule old path answer → NoModule path old new status → EndsWith 0 answer status
+  module_refused refused (NoModule.no_memory is within) = EndsWith.no_memory is
+  module_refused (RefusesModule.too_long text told long is_answer) (NoModule.unread cause) =
+      read_refused (unread status 0 path old new cause) (λ found. sym is_answer)
+  module_refused (RefusesModule.at_fault text line why told is_fault is_answer) (NoModule.unread cause) =
+      read_refused (unread status 0 path old new cause) (λ found.
+      too_much text text (limit_of 0) refl told.short (long_text _ text (limit_of 0) told.told found.long))
+  module_refused (RefusesModule.too_long text told long is_answer) (NoModule.at_fault line why found is tells short is_fault within) =
+      too_much found text (limit_of 0) (sym (same_text _ text found told tells)) short long
+  module_refused (RefusesModule.at_fault text line why told is_fault is_answer) (NoModule.at_fault other otherwise found is tells short found_fault within) =
+      let same = same_text _ text found told.told tells in
+      EndsWith.answered (is ∙ one_module_fault found other line otherwise why found_fault (subst (λ t. IsModuleFault t line why) same is_fault) ∙ sym is_answer)
+
+  pub calls_refused : {source : Module} {file : ℕ} {answer : Status} → RefusesCalls source old file path answer → NoCalls source file path old new status → EndsWith file answer status
+  calls_refused refused (NoCalls.no_memory is within) = EndsWith.no_memory is
+  calls_refused {file = file} (RefusesCalls.too_long text told long is_answer) (NoCalls.unread cause) =
+      read_refused (unread status file path old new cause) (λ found. sym is_answer)
+  calls_refused {file = file} (RefusesCalls.at_fault text line why told is_fault is_answer) (NoCalls.unread cause) =
+      read_refused (unread status file path old new cause) (λ found.
+      too_much text text (limit_of file) refl told.short (long_text _ text (limit_of file) told.told found.long))
+  calls_refused {file = file} (RefusesCalls.too_long text told long is_answer) (NoCalls.at_fault line why found is tells short is_fault within) =
+      too_much found text (limit_of file) (sym (same_text _ text found told tells)) short long
+  calls_refused {source = source} {file = file} (RefusesCalls.at_fault text line why told is_fault is_answer) (NoCalls.at_fault other otherwise found is tells short found_fault within) =
+      let same = same_text _ text found told.told tells in
+      EndsWith.answered (is ∙ one_ops_fault source found file other line otherwise why found_fault (subst (λ t. IsOpsFault source t line why) same is_fault) ∙ sym is_answer)
+
+-- the text of a module's file
+module_text : {files : Source} {path : Text} {tree : Tree} {source : Module} (file : IsModuleFile files path tree source) → IsModuleText file.text source
+module_text {tree = tree} file = record { tree = tree; spelled = file.spelled; typed = file.typed }
+
+-- a file for which a refusal is called was not taken
+pub module_not_taken : {P : Type 0} {files : Source} {path : Text} {tree : Tree} {source : Module} {answer : Status} → RefusesModule files path answer →
+    IsModuleFile files path tree source → P
+module_not_taken (RefusesModule.too_long text told long is_answer) file =
+    too_much file.text text (limit_of 0) (sym (same_text _ text file.text told file.told)) file.short long
+module_not_taken {source = source} (RefusesModule.at_fault text line why told is_fault is_answer) file =
+    let same = same_text _ text file.text told.told file.told in
+    module_or_fault file.text source line why (module_text file) (subst (λ t. IsModuleFault t line why) same is_fault)
+
+pub calls_not_taken : {P : Type 0} {files : Source} {path : Text} {source : Module} {file : ℕ} {answer : Status} {calls : List Call} → 0 < file →
+    RefusesCalls source files file path answer → IsFile source files path calls → P
+calls_not_taken {file = file} more (RefusesCalls.too_long text told long is_answer) found =
+    too_much found.text text (limit_of file) (sym (same_text _ text found.text told found.told)) (rw (later_limit file more) found.short) long
+calls_not_taken {source = source} {calls = calls} more (RefusesCalls.at_fault text line why told is_fault is_answer) found =
+    let same = same_text _ text found.text told.told found.told in
+    calls_or_fault source found.text calls line why found.spells (subst (λ t. IsOpsFault source t line why) same is_fault)
+
+-- the module that is told is the one that is found
+pub told_source : {files : Source} {path : Text} {tree : Tree} {a b : Module} → TellsModule files path a → IsModuleFile files path tree b → a ≡ b
+told_source {a = a} {b = b} tells file =
+    let same = same_text _ tells.text file.text tells.is_told.told file.told in
+    one_source file.text a b (subst (λ t. IsModuleText t a) same tells.spells) (module_text file)
+
+-- the file at a place
+pub record Found (source : Module) (files : Source) (path : Text) : Type 0 where
+  pub calls : List Call
+  pub file : IsFile source files path calls
+
+pub file_at : (source : Module) (files : Source) (paths : List Text) (all : List (List Call)) (at : ℕ) (path : Text) → AreFiles source files paths all → slice_get paths at ≡ Some path → Found source files path
+file_at source files [] all at path are is = cc
+file_at source files (p ∷ paths) [] at path are is = absurd are
+file_at source files (p ∷ paths) (calls ∷ all) zero path are is =
+    let same : p ≡ path = cc in record { calls = calls; file = subst (λ q. IsFile source files q calls) same are.0 }
+file_at source files (p ∷ paths) (calls ∷ all) (suc at) path are is = file_at source files paths all at path are.1 is
+
+-- what stands at a place below n stands among the first n
+pub get_take : {A : Type 0} (xs : List A) (n at : ℕ) (x : A) → at < n → slice_get xs at ≡ Some x → slice_get (take n xs) at ≡ Some x
+get_take xs zero at x below is = absurd (omega arith)
+get_take [] (suc n) at x below is = cc
+get_take (y ∷ xs) (suc n) zero x below is = is
+get_take (y ∷ xs) (suc n) (suc at) x below is = get_take xs n at x (omega arith) is

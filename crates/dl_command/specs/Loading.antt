@@ -1,0 +1,62 @@
+-- The statuses of faults, and why reading the files of a command stops.
+use Rattle.std.specs.Prelude.{◌≡◌, ℕ, ◌+◌, List, Some, slice_get, take}
+use Rattle.dl_io.specs.Source.{Source}
+use Rattle.dl_ir.specs.declared.modules.Module.{Module}
+use Rattle.dl_ir.specs.declared.calls.Call.{Call}
+use Rattle.dl_syntax.specs.declared.calls.CallsFault.{CallsFault}
+use Rattle.dl_syntax.specs.declared.calls.CallsFault.TheVariants as faults
+use Rattle.dl_command.specs.declared.status.Status.{Status}
+use Rattle.dl_command.specs.declared.status.Status.TheVariants as statuses
+use Rattle.dl_command.specs.declared.status.ModuleWhy.{ModuleWhy}
+use Rattle.dl_command.specs.declared.status.ModuleWhy.TheVariants as modules
+use Rattle.dl_command.specs.declared.status.OpsWhy.{OpsWhy}
+use Rattle.dl_grammar.specs.declared.fault.SyntaxFault.{SyntaxFault}
+use Rattle.dl_grammar.specs.declared.fault.SyntaxFault.TheVariants as syntax
+use Rattle.dl_types.specs.declared.fault.TypeFault.{TypeFault}
+use Rattle.dl_types.specs.declared.fault.TypeFault.TheVariants as types
+use Rattle.dl_command.specs.Texts.{IsModuleFault, IsOpsFault, AreFiles, calls_fault}
+use Rattle.dl_command.specs.Causes.{NoCalls}
+use Rattle.dl_command.specs.Reading.{IsWithin}
+use Rattle.dl_command.specs.Words.{Text}
+
+-- the status that a fault of a module text is answered with
+abbrev pub syntax_status : SyntaxFault → Status
+syntax_status (syntax.NotAscii at line) = statuses.ModuleFault line modules.NotAscii
+syntax_status (syntax.BadByte at line) = statuses.ModuleFault line modules.BadByte
+syntax_status (syntax.BigNumber at line) = statuses.ModuleFault line modules.BigNumber
+syntax_status (syntax.Expected line) = statuses.ModuleFault line modules.Expected
+syntax_status (syntax.TooDeep line) = statuses.ModuleFault line modules.TooDeep
+syntax_status (syntax.Limit line which) = statuses.ModuleFault line (modules.Limit which)
+syntax_status syntax.Memory = statuses.Memory
+
+-- the status that a fault of names and types is answered with
+abbrev pub type_status : TypeFault → Status
+type_status (types.Twice line) = statuses.ModuleFault line modules.Twice
+type_status (types.Unknown line) = statuses.ModuleFault line modules.Unknown
+type_status (types.KindClash line) = statuses.ModuleFault line modules.KindClash
+type_status (types.RootInField line) = statuses.ModuleFault line modules.RootInField
+type_status (types.NewRoot line) = statuses.ModuleFault line modules.NewRoot
+type_status (types.AssignRoot line) = statuses.ModuleFault line modules.AssignRoot
+type_status (types.NoRoots line) = statuses.ModuleFault line modules.NoRoots
+type_status types.Memory = statuses.Memory
+
+-- why a text was not read as a module: its fault, or want of memory
+pub data ParseCause (text : List ℕ) (status : Status) : Type 0 where
+  at_fault : (line : ℕ) (why : ModuleWhy) → status ≡ statuses.ModuleFault line why → IsModuleFault text line why → ParseCause text status
+  no_memory : status ≡ statuses.Memory → ParseCause text status
+
+-- the status that a fault of an operation file is answered with
+pub data CallsCause (file : ℕ) (fault : CallsFault) (status : Status) : Type 0 where
+  at_fault : (line : ℕ) (why : OpsWhy) → status ≡ statuses.OpsFault file line why → fault ≡ calls_fault line why → CallsCause file fault status
+  no_memory : status ≡ statuses.Memory → fault ≡ faults.Memory → CallsCause file fault status
+
+-- why a text was not read as an operation file: its first fault, or want of memory
+pub data OpsCause (source : Module) (text : List ℕ) (file : ℕ) (status : Status) : Type 0 where
+  at_fault : (line : ℕ) (why : OpsWhy) → status ≡ statuses.OpsFault file line why → IsOpsFault source text line why → OpsCause source text file status
+  no_memory : status ≡ statuses.Memory → OpsCause source text file status
+
+-- why one of the operation files at these paths was not taken, the ones before it being as they should be
+pub data StopsAt (source : Module) (paths : List Text) (old new : Source) (status : Status) : Type 0 where
+  no_calls : (before : List (List Call)) (at : ℕ) (path : Text) → AreFiles source old (take at paths) before → slice_get paths at ≡ Some path
+      → NoCalls source (at + 1) path old new status → StopsAt source paths old new status
+  no_memory : status ≡ statuses.Memory → IsWithin new → StopsAt source paths old new status

@@ -1,0 +1,137 @@
+-- What the program promises of a call: what it writes where all goes well, and how it ends else.
+use Rattle.std.specs.Prelude.{◌≡◌, ◌≢◌, ◌<◌, ◌≤◌, ◌+◌, ◌⊎◌, ℕ, List, [], ◌++◌, Option, Some, None, All, AllPairs}
+use Rattle.dl_io.specs.Faults.{Rose}
+use Rattle.dl_io.specs.Source.{Source}
+use Rattle.dl_io.specs.Taken.{Taken, Took}
+use Rattle.dl_ir.specs.declared.modules.Module.{Module}
+use Rattle.dl_ir.specs.declared.calls.Call.{Call}
+use Rattle.dl_ir.specs.declared.answers.Entry.{Entry}
+use Rattle.dl_ir.specs.declared.answers.Refusal.{Refusal}
+use Rattle.dl_ir.specs.Cover.{Covers}
+use Rattle.dl_ir.specs.Heap.{Objects, start_objects}
+use Rattle.dl_shape.specs.Closed.{IsForestClosed}
+use Rattle.dl_shape.specs.Pool.{IsLawfulPool, HasVersionsOfMovesAlone, moves_of, in_rising_versions}
+use Rattle.dl_shape.specs.Replay.{IsLegal, replayed}
+use Rattle.dl_closed.specs.Unsealed.{IsUnsealed}
+use Rattle.dl_history.specs.Histories.{Seen}
+use Rattle.dl_history.specs.Report.{report}
+use Rattle.dl_grammar.specs.declared.tree.Tree.{Tree}
+use Rattle.dl_print.specs.Canonical.{canonical}
+use Rattle.dl_instr.specs.Code.{code}
+use Rattle.dl_instr.specs.Listing.{listing}
+use Rattle.dl_command.specs.declared.status.Status.{Status}
+use Rattle.dl_command.specs.declared.status.Status.TheVariants as statuses
+use Rattle.dl_command.specs.Causes.{Refuses, Cut}
+use Rattle.dl_command.specs.Reading.{IsUnread, IsWithin}
+use Rattle.dl_command.specs.Texts.{Spells}
+use Rattle.dl_command.specs.Told.{EndsAsTold, IsInOrder}
+use Rattle.dl_command.specs.Words.{IsGood, Text, Task, limit_of}
+use Rattle.dl_command.specs.declared.top.Outcome.{Outcome}
+use Rattle.dl_command.specs.declared.words.Verb.{Verb}
+use Rattle.dl_command.specs.declared.words.Verb.TheVariants as verbs
+
+-- the refusals stand by caller, and those of a caller by index
+abbrev pub AreInOrder : List Refusal → Type 0
+AreInOrder refusals = AllPairs (λ (earlier later : Refusal). (earlier.caller < later.caller) ⊎ ((earlier.caller ≡ later.caller) × (earlier.index ≤ later.index))) refusals
+
+-- what running the calls of a module came to, from this heap and with so many places: each operation stands once, in
+-- the history or among the refusals; every answer is that of the serial meaning; the pool is lawful, its moves are those that the entries
+-- give, and an entry has no version but those of its moves; and where every serial run ends each operation in a forest, no answer tells
+-- of a sealed object
+pub record IsRun (source : Module) (heap : Objects) (all : List (List Call)) (places : ℕ) (history : Seen) (refusals : List Refusal) : Type 0 where
+  pub covers : Covers all history.entries refusals
+  pub in_order : AreInOrder refusals
+  pub legal : IsLegal source all heap history.entries
+  pub lawful : IsLawfulPool places source all heap history.entries refusals
+  pub moves : history.moves ≡ in_rising_versions (moves_of source all history.entries)
+  pub versions : All (HasVersionsOfMovesAlone source all) history.entries
+  pub unsealed : IsForestClosed source heap → All (λ (entry : Entry). IsUnsealed entry.answer) history.entries
+
+-- the history of no operation
+abbrev pub nothing_done : Seen
+nothing_done = record { entries = []; moves = [] }
+
+-- the report of a run from this heap, with the heap that its history leads to
+abbrev pub report_of : Module → Objects → List (List Call) → List Entry → List Refusal → Text
+report_of source heap all history refusals = report source all history refusals (replayed source all heap history)
+
+-- the text is the report of a run of the calls from this heap
+pub record Reports (source : Module) (heap : Objects) (all : List (List Call)) (places : ℕ) (history : Seen) (refusals : List Refusal) (text : Text) : Type 0 where
+  pub is_run : IsRun source heap all places history refusals
+  pub is_report : text ≡ report_of source heap all history.entries refusals
+
+-- what a command writes of a tree that is a module, and of calls of it: `serial` and `run` the report of a run of them from the
+-- start heap, and `show`, which carries out nothing, the canonical text of the tree and the listing of the module's code
+abbrev pub Writes : Verb → Tree → Module → List (List Call) → ℕ → Seen → List Refusal → Text → Type 0
+Writes verbs.Serial tree source all places history refusals text = Reports source (start_objects source) all places history refusals text
+Writes verbs.Run tree source all places history refusals text = Reports source (start_objects source) all places history refusals text
+Writes verbs.Show tree source all places history refusals text =
+    (history ≡ nothing_done) × (refusals ≡ []) × (text ≡ canonical tree ++ listing (code source))
+
+-- there is a command, and its files spell a tree that is a module, and its calls; the text is what the command writes of
+-- these, with this history and these refusals
+pub record Ran (given : Option Task) (files : Source) (history : Seen) (refusals : List Refusal) (text : Text) : Type 0 where
+  pub task : Task
+  pub is_task : given ≡ Some task
+  pub tree : Tree
+  pub source : Module
+  pub all : List (List Call)
+  pub spells : Spells files task tree source all
+  pub writes : Writes task.verb tree source all task.places history refusals text
+
+-- what the sink took of a text
+abbrev pub Prints : Status → Text → Taken → Taken → Type 0
+Prints statuses.Done text old new = Took old.written new.written text
+Prints statuses.WriteFault text old new = Cut text old new
+Prints statuses.Usage text old new = ⊥
+Prints (statuses.ReadFault file) text old new = ⊥
+Prints (statuses.TooLong file) text old new = ⊥
+Prints (statuses.ModuleFault line why) text old new = ⊥
+Prints (statuses.OpsFault file line why) text old new = ⊥
+Prints statuses.Memory text old new = ⊥
+
+-- how a command ends once its files are read: memory runs out, or what it writes is written as far as the sink takes it
+pub data Finishes (verb : Verb) (tree : Tree) (source : Module) (all : List (List Call)) (places : ℕ) (taken_before taken_after : Taken) (status : Status) (history : Seen) (refusals : List Refusal) : Type 0 where
+  no_memory : status ≡ statuses.Memory → taken_after ≡ taken_before → history ≡ nothing_done → refusals ≡ []
+      → Finishes verb tree source all places taken_before taken_after status history refusals
+  wrote : (text : Text) → Writes verb tree source all places history refusals text → Prints status text taken_before taken_after
+      → Finishes verb tree source all places taken_before taken_after status history refusals
+
+-- how a call ends: there is no command, or memory runs out while the words are read, or the files are refused, or memory runs out, or
+-- what the command writes is written as far as the sink takes it
+pub data Ends (given : Option Task) (old new : Source) (taken_before taken_after : Taken) (status : Status) (history : Seen) (refusals : List Refusal) : Type 0 where
+  usage : status ≡ statuses.Usage → given ≡ None → new ≡ old → taken_after ≡ taken_before → history ≡ nothing_done → refusals ≡ []
+      → Ends given old new taken_before taken_after status history refusals
+  unread : status ≡ statuses.Memory → new ≡ old → taken_after ≡ taken_before → history ≡ nothing_done → refusals ≡ []
+      → Ends given old new taken_before taken_after status history refusals
+  refused : (task : Task) → given ≡ Some task → Refuses task old new status → taken_after ≡ taken_before → history ≡ nothing_done → refusals ≡ []
+      → Ends given old new taken_before taken_after status history refusals
+  ran : (text : Text) → Ran given old history refusals text → IsWithin new → Prints status text taken_before taken_after
+      → Ends given old new taken_before taken_after status history refusals
+
+-- the promise of a call whose words give this command, or none, over what the files tell before and after it and what the sink has
+-- taken before and after it
+pub record KeepsPromise (given : Option Task) (old new : Source) (taken_before taken_after : Taken) (outcome : Outcome) : Type 0 where
+  -- where all is done, the sink took what the command writes of what the files' bytes spell
+  pub done : outcome.status ≡ statuses.Done → (text : Text) × Ran given old outcome.history outcome.refusals text × Took taken_before.written taken_after.written text
+  -- at a fault of the sink the same, and a prefix of it was taken
+  pub write_fault : outcome.status ≡ statuses.WriteFault → (text : Text) × Ran given old outcome.history outcome.refusals text × Cut text taken_before taken_after
+  -- else nothing was written, and nothing carried out; so memory never runs out once an operation has begun
+  pub nothing : outcome.status ≢ statuses.Done → outcome.status ≢ statuses.WriteFault
+      → (taken_after ≡ taken_before) × (outcome.history ≡ nothing_done) × (outcome.refusals ≡ [])
+  pub usage : outcome.status ≡ statuses.Usage → ¬ IsGood given
+  -- where there is no command, no file is touched, and nothing else is answered unless memory runs out
+  pub bad_words : ¬ IsGood given → ((outcome.status ≡ statuses.Usage) ⊎ (outcome.status ≡ statuses.Memory)) × (new ≡ old)
+  -- each other refusal has its cause, and want of memory needs none
+  pub causes : outcome.status ≢ statuses.Done → outcome.status ≢ statuses.WriteFault → outcome.status ≢ statuses.Usage → outcome.status ≢ statuses.Memory
+      → (task : Task) × (given ≡ Some task) × Refuses task old new outcome.status
+  -- where what the files tell calls for a refusal, it is answered, unless a file can't be read or memory runs out
+  pub exact : (task : Task) → given ≡ Some task → EndsAsTold old task outcome.status
+  -- where all is in order and the sink does not fail, all is done, unless memory runs out
+  pub complete : (task : Task) → given ≡ Some task → IsInOrder old task → ¬ Rose taken_before.faults taken_after.faults
+      → (outcome.status ≡ statuses.Done) ⊎ (outcome.status ≡ statuses.Memory)
+  -- where more than a file's limit was taken of it, nothing else is answered, unless memory runs out before a file is attached
+  pub too_long : IsGood given → (file : ℕ) → new.attached ≡ Some file → limit_of file < new.given
+      → (outcome.status ≡ statuses.TooLong file) ⊎ IsUnread old new outcome.status
+  -- of no file more than one byte over its limit is taken
+  pub at_most : IsGood given → (file : ℕ) → new.attached ≡ Some file → (new.given ≤ limit_of file + 1) ⊎ IsUnread old new outcome.status

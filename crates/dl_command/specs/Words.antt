@@ -1,0 +1,155 @@
+-- Which words are a command, over what the library `clap` makes of them: the command line, and the table of commands.
+use Rattle.std.specs.Prelude.{◌≡◌, ℕ, ◌==◌, ◌-◌, ◌^◌, nat_lt, true, List, [], ◌∷◌, length, map, find, fold, pos, Option, Some, None, codes, bytes_eq, slice_get, unwrap_or, if◌then◌else◌}
+use Rattle.std.specs.Prelude.{option_map, option_and_then}
+use Rattle.std.specs.Str.Parse.{digits_value, without_leading_plus}
+use Rattle.clap.specs.ValueTests.{is_unsigned_in}
+use Rattle.clap.specs.Words.{App, Kinds, Row, Rule, all_of, fault_of, first_of, matches_of, new_app, new_rule, one_of, with_rule}
+use Rattle.clap.specs.Simple.{on_top}
+use Rattle.clap.specs.declared.builder.action.ArgAction.TheVariants.{Append}
+use Rattle.clap.specs.declared.builder.value_parser.ValueParser.{ValueParser}
+use Rattle.clap.specs.declared.builder.value_parser.ValueParser.TheVariants as parsers
+use Rattle.dl_command.specs.declared.status.Status.{Status}
+use Rattle.dl_command.specs.declared.status.Status.TheVariants as statuses
+use Rattle.dl_command.specs.declared.words.Command.{Command}
+use Rattle.dl_command.specs.declared.words.CommandRow.{CommandRow}
+use Rattle.dl_command.specs.declared.words.Line.{Line as Held}
+use Rattle.dl_command.specs.declared.words.Verb.{Verb}
+use Rattle.dl_command.specs.declared.words.Verb.TheVariants as verbs
+use Rattle.dl_command.specs.declared.words.WordsFault.{WordsFault}
+use Rattle.dl_command.specs.declared.words.WordsFault.TheVariants as faults
+
+-- a word, as its bytes
+abbrev pub Text : Type 0
+Text = List ℕ
+
+-- a command: what to do, the path of the module, the paths of the files behind it, and how many hidden objects there may
+-- be at a time
+pub record Task : Type 0 where
+  pub verb : Verb
+  pub first : Text
+  pub rest : List Text
+  pub places : ℕ
+
+-- the word that says what to do
+abbrev pub command_rule : Rule
+command_rule = record (new_rule (codes "COMMAND")) { required = true }
+
+-- the word behind it
+abbrev pub first_rule : Rule
+first_rule = record (new_rule (codes "FIRST")) { required = true }
+
+-- all further words
+abbrev pub rest_rule : Rule
+rest_rule = record (new_rule (codes "REST")) { action = Some Append }
+
+-- the numbers that the option takes
+abbrev pub places_parser : ValueParser
+places_parser = parsers.Signed (pos 1) (pos 65536)
+
+-- the option `--places N`: a number from 1 to 65,536, and 4,096 where the option is not given
+abbrev pub places_rule : Rule
+places_rule = record (new_rule (codes "places")) {
+  long = Some (codes "places");
+  parser = Some places_parser;
+  defaults = codes "4096" ∷ [];
+}
+
+-- what the words may be: the three kinds of words in this order, and the options
+abbrev pub rules : List Rule
+rules = command_rule ∷ first_rule ∷ rest_rule ∷ places_rule ∷ []
+
+-- the command line, which the program's name is no part of
+abbrev pub command_line : App
+command_line = fold with_rule (on_top (λ shape. record shape { no_binary_name = true }) (new_app (codes "domlock"))) rules
+
+-- what the command line gives: the words in their order, and the number of the option
+pub record Line : Type 0 where
+  pub command : Text
+  pub first : Text
+  pub rest : List Text
+  pub places : ℕ
+
+-- the number that a text says, where 32 bits hold it
+abbrev pub number_of : Text → Option ℕ
+number_of text = if is_unsigned_in 0 (2 ^ 32 - 1) text then Some (digits_value 10 (without_leading_plus text)) else None
+
+-- what the matches of the command line give
+abbrev pub line_of_matches : List Row → Option Line
+line_of_matches rows = option_and_then (λ command. option_and_then (λ first. option_map (λ places. record {
+  command = command;
+  first = first;
+  rest = unwrap_or (all_of (codes "REST") rows) [];
+  places = places;
+}) (option_and_then number_of (one_of (codes "places") rows))) (first_of (codes "FIRST") rows)) (first_of (codes "COMMAND") rows)
+
+-- the table of commands, a row each: the word COMMAND, what it asks for, and how many words REST has at least and at most;
+-- they are `serial MODULE OPERATIONS`, `run MODULE OPERATIONS..` with up to 64 operation files, and `show MODULE`
+abbrev pub table : List (Text × CommandRow)
+table =
+    (codes "serial", record { verb = verbs.Serial; fewest = 1; most = 1 })
+    ∷ (codes "run", record { verb = verbs.Run; fewest = 1; most = 64 })
+    ∷ (codes "show", record { verb = verbs.Show; fewest = 0; most = 0 })
+    ∷ []
+
+-- the row of a word
+abbrev pub row_of : Text → Option CommandRow
+row_of word = option_map (λ row. row.1) (find (λ row. bytes_eq row.0 word) table)
+
+-- the command that a row gives, where REST has as many words as the row asks for
+abbrev pub task_by : Line → CommandRow → Option Task
+task_by line row =
+    if nat_lt (length line.rest) row.fewest then None
+    else if nat_lt row.most (length line.rest) then None
+    else Some (record { verb = row.verb; first = line.first; rest = line.rest; places = line.places })
+
+-- the command that the table has for what the words give
+abbrev pub task_of_line : Line → Option Task
+task_of_line line = option_and_then (task_by line) (row_of line.command)
+
+-- the command that the matches of the command line give
+abbrev pub task_of_matches : List Row → Option Task
+task_of_matches rows = option_and_then task_of_line (line_of_matches rows)
+
+-- the command, unless the command line has something against the words
+abbrev pub unless_refused : Kinds → Option Task → Option Task
+unless_refused [] task = task
+unless_refused (kind ∷ kinds) task = None
+
+-- the command that the words give, where they are good
+abbrev pub task_of_words : List Text → Option Task
+task_of_words words = unless_refused (fault_of command_line words) (task_of_matches (matches_of command_line words))
+
+-- words that give this are good: the command line takes them, and they are as the table of commands says
+abbrev pub IsGood : Option Task → Type 0
+IsGood given = (task : Task) × (given ≡ Some task)
+
+-- a command that needs no threads
+abbrev pub unless_run : Verb → Task → Option Task
+unless_run verbs.Run task = None
+unless_run verbs.Serial task = Some task
+unless_run verbs.Show task = Some task
+
+-- the command that the words give, where they are good and are not `run`
+abbrev pub still_task_of_words : List Text → Option Task
+still_task_of_words words = option_and_then (λ (task : Task). unless_run task.verb task) (task_of_words words)
+
+-- the status of a call whose words give no command
+abbrev pub status_of : WordsFault → Status
+status_of faults.Usage = statuses.Usage
+status_of faults.Memory = statuses.Memory
+
+-- the path of a file of a command; the module is file 0
+abbrev pub path_of : Task → ℕ → Option Text
+path_of task file = slice_get (task.first ∷ task.rest) file
+
+-- how many bytes a file may have: the module fewer than the others
+abbrev pub limit_of : ℕ → ℕ
+limit_of file = if file == 0 then 262144 else 4194304
+
+-- what the command line gives, as the program holds it
+abbrev pub line_held : Held → Line
+line_held line = record { command = line.command.now; first = line.first.now; rest = map (λ word. word.now) line.rest.items; places = line.places }
+
+-- a command as the program holds it
+abbrev pub task_of : Command → Task
+task_of command = record { verb = command.verb; first = command.first.now; rest = map (λ path. path.now) command.rest.items; places = command.places }

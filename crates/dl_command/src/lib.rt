@@ -1,0 +1,15 @@
+//! What the program does, over files, a sink and a gate that are handed in: words, files, and the commands.
+//! `docs/FORMATS.md` tells the words and what is printed.
+#![tactic(auto)]
+
+mod loading;
+mod reading;
+mod run;
+mod show;
+mod status;
+mod top;
+mod words;
+
+pub use status::{ModuleWhy, OpsWhy, Status, exit_code, status_line};
+pub use top::{Outcome, domlock, domlock_still};
+pub use words::{Words, WordsFault};

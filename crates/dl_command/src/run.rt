@@ -1,0 +1,166 @@
+//! Running the calls of a command, and the report of it.
+
+ghost use Rattle.std.specs.Prelude.{◌≡◌, ◌≤◌, ◌<◌, ◌^◌, ◌+◌, ◌∷◌, [], All, IfOk, length, map, sum_by};
+ghost use Rattle.dl_ir.specs.CallForms.{AreCallsOf};
+ghost use Rattle.dl_ir.specs.Checked.{IsChecked};
+ghost use Rattle.dl_ir.specs.Cover.{Covers};
+ghost use Rattle.dl_ir.specs.Heap.{start_objects};
+ghost use Rattle.dl_shape.specs.Pool.{moves_of, in_rising_versions};
+ghost use Rattle.dl_shape.specs.Replay.{replayed};
+ghost use Rattle.dl_history.specs.Histories.{joined, AreByCaller};
+ghost use Rattle.dl_command.specs.Promise.{IsRun, Prints, report_of};
+
+use crate::loading::Input;
+use crate::status::Status;
+use dl_core::Ground;
+use dl_history::{History, MergeRoom, gather, merge, write_report};
+use dl_instr::{codes_of_modules, instrument};
+use dl_io::{Failed, Sink};
+use dl_ir::{Calls, Closed, Heap, Refusal};
+use dl_machine::{Gate, run_files};
+use dl_serial::{Served, run_calls};
+use dl_text::Out;
+use sqlite_items::Items;
+use std::alloc::{AllocError, Global};
+use std::sync::Wait;
+use std::thread::Threads;
+
+/// What running the calls of a command came to: the history, the refusals by caller and index, and what the run left.
+#[derive(Drop)]
+pub struct Run {
+    pub history: History,
+    pub refusals: Items<Refusal>,
+    pub closed: Closed,
+}
+
+/// Runs the calls of one file, one after another, from the start heap of their module, with so many hidden objects at a
+/// time at most.
+pub fn run_input(alloc: Global, input: &Input, places: u32) -> Result<Run, AllocError>
+    requires places { (1 ≤ places) × (places ≤ 65536) }
+    requires checked { IsChecked input.now.source }
+    requires one { length input.now.all.items ≡ 1 }
+    requires calls { All (AreCallsOf input.now.source) input.now.all.items }
+    ensures run { IfOk result (λ run. IsRun input.now.source (start_objects input.now.source) input.now.all.items places run.history run.refusals) }
+    ensures heap { IfOk result (λ run. run.closed.heap.objects ≡ replayed input.now.source input.now.all.items (start_objects input.now.source) run.history.entries) }
+    ensures moves { IfOk result (λ run. run.history.moves ≡ in_rising_versions (moves_of input.now.source input.now.all.items run.history.entries)) }
+    ensures refusals { IfOk result (λ run. (joined run.closed.refusals ≡ run.refusals) × AreByCaller run.closed.refusals) }
+{
+    let mut heap = Heap::start(alloc, &input.source, places)?;
+    let served = run_calls(alloc, &input.source, &mut heap, places, 1, &input.all[0])?;
+    let room = MergeRoom::new(alloc, served.entries.len() as u32)?;
+    let refusals = Items::from_slice(alloc, served.refusals.as_slice())?;
+    let closed = close(alloc, heap, served)?;
+    let history = merge(&input.source, input.all.as_slice(), &closed, room);
+    Ok(Run {
+        history,
+        refusals,
+        closed,
+    })
+}
+
+// The number of operations of each file.
+fn sizes_of(alloc: Global, files: &[Calls]) -> Result<Vec<u32>, AllocError>
+    requires { All (λ calls. length calls ≤ 65536) files.now }
+    ensures { IfOk result (λ sizes. sizes.items ≡ map length files.now) }
+{
+    let mut sizes = Vec::new(alloc);
+    'files: for calls in files {
+        sizes.push(calls.len() as u32)?;
+    }
+    Ok(sizes)
+}
+
+// The number of all operations.
+fn total_of(files: &[Calls]) -> u32
+    requires few { length files.now ≤ 64 }
+    requires short { All (λ calls. length calls ≤ 65536) files.now }
+    ensures { result ≡ sum_by length files.now }
+{
+    let mut total = 0;
+    'files: for calls in files {
+        total += calls.len() as u32;
+    }
+    total
+}
+
+/// Runs the calls of each file side by side, by what runs operations for several callers, from the start heap of their
+/// module, with so many hidden objects at a time at most. All memory is taken before the first operation begins.
+pub fn run_over<R: Threads + Wait + Sync, G: Ground, T: Gate>(
+    rt: &R,
+    alloc: Global,
+    input: &Input,
+    places: u32,
+    gate: &T,
+) -> Result<Run, AllocError>
+    requires places { places ≤ 65536 }
+    requires checked { IsChecked input.now.source }
+    requires some { 1 ≤ length input.now.all.items }
+    requires few { length input.now.all.items ≤ 64 }
+    requires calls { All (AreCallsOf input.now.source) input.now.all.items }
+    ensures run { IfOk result (λ run. IsRun input.now.source (start_objects input.now.source) input.now.all.items places run.history run.refusals) }
+    ensures heap { IfOk result (λ run. run.closed.heap.objects ≡ replayed input.now.source input.now.all.items (start_objects input.now.source) run.history.entries) }
+    ensures moves { IfOk result (λ run. run.history.moves ≡ in_rising_versions (moves_of input.now.source input.now.all.items run.history.entries)) }
+    ensures refusals { IfOk result (λ run. (joined run.closed.refusals ≡ run.refusals) × AreByCaller run.closed.refusals) }
+{
+    codes_of_modules();
+    let files = input.all.as_slice();
+    let code = instrument(alloc, &input.source)?;
+    let sizes = sizes_of(alloc, files)?;
+    let total = total_of(files);
+    let room = MergeRoom::new(alloc, total)?;
+    let mut refusals = Vec::with_capacity(alloc, total as usize)?;
+    let (all, passes) = G::start(alloc, code, places, &sizes)?;
+    let closed = run_files(rt, all, passes, files, gate);
+    let history = merge(&input.source, files, &closed, room);
+    gather(closed.refusals.as_slice(), &mut refusals);
+    Ok(Run {
+        history,
+        refusals: Items::from_vec(refusals),
+        closed,
+    })
+}
+
+// What a run of one caller left.
+fn close(alloc: Global, heap: Heap, served: Served) -> Result<Closed, AllocError>
+    ensures heap { IfOk result (λ closed. closed.heap ≡ heap) }
+    ensures entries { IfOk result (λ closed. closed.entries ≡ served.entries ∷ []) }
+    ensures refusals { IfOk result (λ closed. closed.refusals ≡ served.refusals ∷ []) }
+{
+    let mut entries = Items::new(alloc);
+    entries.push(served.entries)?;
+    let mut refusals = Items::new(alloc);
+    refusals.push(served.refusals)?;
+    Ok(Closed {
+        heap,
+        entries,
+        refusals,
+        free: served.free,
+    })
+}
+
+/// Writes the report of a run.
+pub fn write_run<K: Sink>(input: &Input, run: &Run, sink: &mut K) -> Status
+    requires few { length input.now.all.items ≤ 64 }
+    requires calls { All (AreCallsOf input.now.source) input.now.all.items }
+    requires covers { Covers input.now.all.items run.now.history.entries run.now.refusals }
+    requires heap { run.now.closed.heap.objects ≡ replayed input.now.source input.now.all.items (start_objects input.now.source) run.now.history.entries }
+    requires moves { run.now.history.moves ≡ in_rising_versions (moves_of input.now.source input.now.all.items run.now.history.entries) }
+    requires refusals { (joined run.now.closed.refusals ≡ run.now.refusals) × AreByCaller run.now.closed.refusals }
+    ensures { Prints result (report_of input.now.source (start_objects input.now.source) input.now.all.items run.now.history.entries run.now.refusals) (K.taken sink.old) (K.taken sink.new) }
+{
+    let mut out = Out::new();
+    match write_report(
+        &input.source,
+        input.all.as_slice(),
+        &run.history,
+        &run.closed,
+        &mut out,
+        sink,
+    ) {
+        Ok(()) => match out.flush(sink) {
+            Ok(()) => Status::Done,
+            Err(Failed) => Status::WriteFault,
+        },
+        Err(Failed) => Status::WriteFault,
+    }
+}

@@ -1,0 +1,226 @@
+//! The top calls, whose contract is what the program promises.
+
+ghost use Rattle.std.specs.Prelude.{◌≡◌, ◌≤◌, ℕ, [], Some, All, length};
+ghost use Rattle.dl_ir.specs.CallForms.{AreCallsOf};
+ghost use Rattle.dl_ir.specs.Checked.{IsChecked};
+ghost use Rattle.dl_command.specs.Promise.{Finishes, Ends, KeepsPromise, nothing_done};
+ghost use Rattle.dl_command.specs.Words.{still_task_of_words, task_of, task_of_words};
+
+use crate::loading::{Input, read_input};
+use crate::run::{run_input, run_over, write_run};
+use crate::show::write_shown;
+use crate::status::Status;
+use crate::words::{Command, Verb, Words, command_of};
+use dl_coarse::Coarse;
+use dl_core::{Core, Ground};
+use dl_history::History;
+use dl_instr::instrument;
+use dl_io::{Files, Sink};
+use dl_ir::Refusal;
+use dl_machine::Gate;
+use sqlite_items::Items;
+use std::alloc::Global;
+use std::sync::Wait;
+use std::thread::Threads;
+
+/// How a call ended, with the order in which the operations were carried out and with those that were refused.
+#[derive(Drop)]
+pub struct Outcome {
+    pub status: Status,
+    pub history: History,
+    /// By caller and index.
+    pub refusals: Items<Refusal>,
+}
+
+// An outcome of which nothing was carried out.
+fn nothing(alloc: Global, status: Status) -> Outcome
+    ensures status { result.status ≡ status }
+    ensures history { result.history ≡ nothing_done }
+    ensures refusals { result.refusals ≡ [] }
+{
+    Outcome {
+        status,
+        history: History::empty(alloc),
+        refusals: Items::new(alloc),
+    }
+}
+
+// Runs the calls of a command one after another from the start heap, and writes the report.
+fn serial<K: Sink>(alloc: Global, input: &Input, places: u32, out: &mut K) -> Outcome
+    requires places { (1 ≤ places) × (places ≤ 65536) }
+    requires checked { IsChecked input.now.source }
+    requires one { length input.now.all.items ≡ 1 }
+    requires calls { All (AreCallsOf input.now.source) input.now.all.items }
+    ensures { Finishes Verb.Serial input.now.tree input.now.source input.now.all.items places (K.taken out.old) (K.taken out.new) result.status result.history result.refusals }
+{
+    match run_input(alloc, input, places) {
+        Ok(run) => {
+            let status = write_run(input, &run, out);
+            Outcome {
+                status,
+                history: run.history,
+                refusals: run.refusals,
+            }
+        }
+        Err(_) => nothing(alloc, Status::Memory),
+    }
+}
+
+// Runs the calls of a command side by side from the start heap, and writes the report.
+fn run<R: Threads + Wait + Sync, G: Ground, K: Sink, T: Gate>(
+    rt: &R,
+    alloc: Global,
+    input: &Input,
+    places: u32,
+    out: &mut K,
+    gate: &T,
+) -> Outcome
+    requires places { places ≤ 65536 }
+    requires checked { IsChecked input.now.source }
+    requires some { 1 ≤ length input.now.all.items }
+    requires few { length input.now.all.items ≤ 64 }
+    requires calls { All (AreCallsOf input.now.source) input.now.all.items }
+    ensures { Finishes Verb.Run input.now.tree input.now.source input.now.all.items places (K.taken out.old) (K.taken out.new) result.status result.history result.refusals }
+{
+    match run_over::<R, G, T>(rt, alloc, input, places, gate) {
+        Ok(run) => {
+            let status = write_run(input, &run, out);
+            Outcome {
+                status,
+                history: run.history,
+                refusals: run.refusals,
+            }
+        }
+        Err(_) => nothing(alloc, Status::Memory),
+    }
+}
+
+// Writes the module in its canonical form, and its code.
+fn show<K: Sink>(alloc: Global, input: &Input, out: &mut K) -> Outcome
+    ensures { (places : ℕ) → Finishes Verb.Show input.now.tree input.now.source input.now.all.items places (K.taken out.old) (K.taken out.new) result.status result.history result.refusals }
+{
+    match instrument(alloc, &input.source) {
+        Ok(code) => nothing(alloc, write_shown(&input.tree, &code, out)),
+        Err(_) => nothing(alloc, Status::Memory),
+    }
+}
+
+fn serial_command<F: Files, K: Sink>(
+    alloc: Global,
+    command: &Command<'_>,
+    files: &mut F,
+    out: &mut K,
+) -> Outcome
+    requires verb { command.now.verb ≡ Verb.Serial }
+    requires one { length command.now.rest.items ≡ 1 }
+    requires places { (1 ≤ command.now.places) × (command.now.places ≤ 65536) }
+    ensures { Ends (Some (task_of command.now)) (F.source files.old) (F.source files.new) (K.taken out.old) (K.taken out.new) result.status result.history result.refusals }
+{
+    match read_input(alloc, files, command) {
+        Ok(input) => serial(alloc, &input, command.places, out),
+        Err(status) => nothing(alloc, status),
+    }
+}
+
+fn run_command<R: Threads + Wait + Sync, G: Ground, F: Files, K: Sink, T: Gate>(
+    rt: &R,
+    alloc: Global,
+    command: &Command<'_>,
+    files: &mut F,
+    out: &mut K,
+    gate: &T,
+) -> Outcome
+    requires verb { command.now.verb ≡ Verb.Run }
+    requires some { 1 ≤ length command.now.rest.items }
+    requires few { length command.now.rest.items ≤ 64 }
+    requires places { command.now.places ≤ 65536 }
+    ensures { Ends (Some (task_of command.now)) (F.source files.old) (F.source files.new) (K.taken out.old) (K.taken out.new) result.status result.history result.refusals }
+{
+    match read_input(alloc, files, command) {
+        Ok(input) => run::<R, G, K, T>(rt, alloc, &input, command.places, out, gate),
+        Err(status) => nothing(alloc, status),
+    }
+}
+
+fn show_command<F: Files, K: Sink>(
+    alloc: Global,
+    command: &Command<'_>,
+    files: &mut F,
+    out: &mut K,
+) -> Outcome
+    requires verb { command.now.verb ≡ Verb.Show }
+    requires few { length command.now.rest.items ≤ 64 }
+    ensures { Ends (Some (task_of command.now)) (F.source files.old) (F.source files.new) (K.taken out.old) (K.taken out.new) result.status result.history result.refusals }
+{
+    match read_input(alloc, files, command) {
+        Ok(input) => show(alloc, &input, out),
+        Err(status) => nothing(alloc, status),
+    }
+}
+
+fn run_still<F: Files, K: Sink>(alloc: Global, words: &Words, files: &mut F, out: &mut K) -> Outcome
+    ensures { Ends (still_task_of_words words.now) (F.source files.old) (F.source files.new) (K.taken out.old) (K.taken out.new) result.status result.history result.refusals }
+{
+    let command = match command_of(alloc, words) {
+        Ok(command) => command,
+        Err(fault) => return nothing(alloc, fault.status()),
+    };
+    match command.verb {
+        Verb::Serial => serial_command(alloc, &command, files, out),
+        Verb::Run => nothing(alloc, Status::Usage),
+        Verb::Show => show_command(alloc, &command, files, out),
+    }
+}
+
+/// Does all that the program does but for `run`, whose words it answers as words that are not good, over files and a sink
+/// that are handed in. Where memory runs out, files may have been attached and read.
+pub fn domlock_still<F: Files, K: Sink>(
+    alloc: Global,
+    words: &Words,
+    files: &mut F,
+    out: &mut K,
+) -> Outcome
+    ensures { KeepsPromise (still_task_of_words words.now) (F.source files.old) (F.source files.new) (K.taken out.old) (K.taken out.new) result }
+{
+    run_still(alloc, words, files, out)
+}
+
+// All that the program does, with what runs operations for several callers still to be chosen.
+fn domlock_over<R: Threads + Wait + Sync, G: Ground, F: Files, K: Sink, T: Gate>(
+    rt: &R,
+    alloc: Global,
+    words: &Words,
+    files: &mut F,
+    out: &mut K,
+    gate: &T,
+) -> Outcome
+    ensures { KeepsPromise (task_of_words words.now) (F.source files.old) (F.source files.new) (K.taken out.old) (K.taken out.new) result }
+{
+    let command = match command_of(alloc, words) {
+        Ok(command) => command,
+        Err(fault) => return nothing(alloc, fault.status()),
+    };
+    match command.verb {
+        Verb::Run => run_command::<R, G, F, K, T>(rt, alloc, &command, files, out, gate),
+        Verb::Serial => domlock_still(alloc, words, files, out),
+        Verb::Show => domlock_still(alloc, words, files, out),
+    }
+}
+
+// What runs operations for several callers: the machine, under one turn for all of them.
+type OneTurn = Coarse<Core>;
+
+/// Does all that the program does, over files and a sink that are handed in. `run` is served here, and may wait; the gate
+/// is told of each of its steps that moved a caller. All other words are handed to `domlock_still`.
+pub fn domlock<R: Threads + Wait + Sync, F: Files, K: Sink, T: Gate>(
+    rt: &R,
+    alloc: Global,
+    words: &Words,
+    files: &mut F,
+    out: &mut K,
+    gate: &T,
+) -> Outcome
+    ensures { KeepsPromise (task_of_words words.now) (F.source files.old) (F.source files.new) (K.taken out.old) (K.taken out.new) result }
+{
+    domlock_over::<R, OneTurn, F, K, T>(rt, alloc, words, files, out, gate)
+}

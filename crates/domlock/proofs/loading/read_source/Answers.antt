@@ -1,7 +1,0 @@
-use Rattle.domlock.proofs.LoadingLemmas.{no_source}
-use Rattle.domlock.proofs.loading.read_source.Goals as goal
-
-pub returns-clause-cause : goal.returns-clause-cause
-returns-clause-cause g c =
-    let cause = rw c.deref.ensures.value at c.parse_module.ensures.cause in
-    no_source _ _ _ _ _ c.in-Ok.ensures.bytes.0 c.in-Ok.ensures.bytes.1 c.in-Ok.ensures.within cause

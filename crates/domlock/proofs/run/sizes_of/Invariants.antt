@@ -1,5 +1,0 @@
-use Rattle.std.proofs.Common.{◌≡◌, length, map, take}
-use Rattle.domlock.proofs.run.sizes_of.Given as goal
-
-abbrev pub invariant-files : goal.invariant-files
-invariant-files l = l.sizes.items ≡ map length (take l.calls-index l.files)

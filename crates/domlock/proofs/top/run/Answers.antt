@@ -1,9 +1,0 @@
-use Rattle.std.proofs.Common.{refl}
-use Rattle.domlock.specs.Promise.{Finishes}
-use Rattle.domlock.proofs.top.run.Goals as goal
-
-pub returns-in-Ok : goal.returns-in-Ok
-returns-in-Ok g c = Finishes.wrote _ (record { is_run = c.in-Ok.ensures.run; is_report = refl }) c.write_run-status.ensures
-
-pub returns-in-Err : goal.returns-in-Err
-returns-in-Err g c = let n = c.nothing.ensures in Finishes.no_memory n.status refl n.history n.refusals
