@@ -50,7 +50,7 @@ comparisons_rise {X} k es sorted i j d le within =
     ]
 
 -- an entry that ties is at its place
-is_at : {X : Type 0} → (k : Name) (es : Held X) (at : ℕ) (d : Name × X) → T (is_sorted name_cmp es) → at < length es → name_cmp (get_or es at d).0 k ≡ Equal → IsAt k es at
+pub is_at : {X : Type 0} → (k : Name) (es : Held X) (at : ℕ) (d : Name × X) → T (is_sorted name_cmp es) → at < length es → name_cmp (get_or es at d).0 k ≡ Equal → IsAt k es at
 is_at {X} k [] at d sorted within tied = absurd (omega arith)
 is_at {X} k (e ∷ es) zero d sorted within tied = tied
 is_at {X} k (e ∷ es) (suc at) d sorted within tied =

@@ -9,6 +9,7 @@ mod closed;
 mod emits;
 mod expressions;
 mod heaps;
+mod hints;
 mod iterators;
 mod modules;
 mod moves;

@@ -9,6 +9,7 @@ ghost use Rattle.dl_ir.specs.Places.{IsAt, IsGap, present};
 ghost use Rattle.dl_ir.specs.declared.names.Name.{Name};
 ghost use Rattle.dl_ir.specs.declared.objects.Obj.{Obj};
 
+use crate::hints::Hints;
 use crate::iterators::TableIter;
 use crate::names::{Name, Value};
 use crate::objects::Obj;
@@ -26,6 +27,8 @@ pub struct Table<V> {
     // No name before this place has a value.
     first: usize,
     room: usize,
+    // Where a name is looked for first.
+    hints: Hints,
 }
 
 impl<V> Model for Table<V> {
@@ -52,11 +55,13 @@ impl<V> Table<V> {
         let Some(memory) = room.checked_mul(2) else {
             return Err(AllocError);
         };
+        let hints = Hints::new(alloc, memory)?;
         Ok(Table {
             entries: Vec::with_capacity(alloc, memory)?,
             len: 0,
             first: 0,
             room,
+            hints,
         })
     }
 
@@ -64,7 +69,7 @@ impl<V> Table<V> {
     pub fn get(&self, name: Name) -> Option<&V>
         ensures { option_copied result ≡ map.get self.now.rows name }
     {
-        match place(&self.entries, name) {
+        match place_near(&self.entries, self.hints.guess(name), name) {
             Ok(at) => self.entries[at].1.as_ref(),
             Err(_) => None,
         }
@@ -118,8 +123,8 @@ impl<V: Drop> Table<V> {
         requires { map.get self.old.rows name ≡ None → map.len self.old.rows < self.old.room }
         ensures { self.new ≡ record self.old { rows = map.insert self.old.rows name value } }
     {
-        self.first = make_room(&mut self.entries, self.first, self.room);
-        match place(&self.entries, name) {
+        self.first = make_room(&mut self.entries, &mut self.hints, self.first, self.room);
+        match place_near(&self.entries, self.hints.guess(name), name) {
             Ok(at) => {
                 self.len += fill(&mut self.entries, at, value);
                 self.first = self.first.min(at);
@@ -128,6 +133,7 @@ impl<V: Drop> Table<V> {
                 Ok(()) => {
                     self.len += 1;
                     self.first = self.first.min(at);
+                    self.hints.note(name, at);
                 }
                 Err(_) => unreachable!(),
             },
@@ -139,7 +145,7 @@ impl<V: Drop> Table<V> {
         ensures value { result ≡ map.get self.old.rows name }
         ensures left { self.new ≡ record self.old { rows = map.remove self.old.rows name } }
     {
-        match place(&self.entries, name) {
+        match place_near(&self.entries, self.hints.guess(name), name) {
             Ok(at) => {
                 let value = take_at(&mut self.entries, at);
                 self.len -= count(&value);
@@ -156,7 +162,7 @@ impl Table<Obj> {
     pub fn set_field(&mut self, name: Name, field: usize, value: Value)
         ensures { self.new ≡ record self.old { rows = with_field self.old.rows name field value } }
     {
-        if let Ok(at) = place(&self.entries, name) {
+        if let Ok(at) = place_near(&self.entries, self.hints.guess(name), name) {
             set_at(&mut self.entries, at, field, value);
         }
     }
@@ -165,7 +171,7 @@ impl Table<Obj> {
     pub fn seal(&mut self, name: Name)
         ensures { self.new ≡ record self.old { rows = with_seal self.old.rows name } }
     {
-        if let Ok(at) = place(&self.entries, name) {
+        if let Ok(at) = place_near(&self.entries, self.hints.guess(name), name) {
             seal_at(&mut self.entries, at);
         }
     }
@@ -178,6 +184,18 @@ fn place<V>(entries: &[(Name, V)], name: Name) -> Result<usize, usize>
     ensures absent { IfErr result (IsGap name entries.now) }
 {
     entries.binary_search_by_key(&name, |(held, _)| *held)
+}
+
+// Where the name is among sorted entries, or where it would stand. Where it is at the guessed place nothing is searched.
+fn place_near<V>(entries: &[(Name, V)], guess: usize, name: Name) -> Result<usize, usize>
+    requires { map.is_sorted name_cmp entries.now ≡ true }
+    ensures found { IfOk result (IsAt name entries.now) }
+    ensures absent { IfErr result (IsGap name entries.now) }
+{
+    if guess < entries.len() && entries[guess].0.cmp(&name).is_eq() {
+        return Ok(guess);
+    }
+    place(entries, name)
 }
 
 // The first place from this one on at which a name has a value, where none has one before.
@@ -195,7 +213,12 @@ fn first_from<V>(entries: &[(Name, Option<V>)], from: usize) -> usize
 
 // Lets go of the names that have no value, where memory for another name may be wanting. Answers a place before which no
 // name has a value.
-fn make_room<V: Drop>(entries: &mut Vec<(Name, Option<V>)>, first: usize, room: usize) -> usize
+fn make_room<V: Drop>(
+    entries: &mut Vec<(Name, Option<V>)>,
+    hints: &mut Hints,
+    first: usize,
+    room: usize,
+) -> usize
     requires passed { present (take first entries.old.items) ≡ [] }
     requires reserved { room + room ≤ vec_capacity entries.old }
     ensures same { present entries.new.items ≡ present entries.old.items }
@@ -208,7 +231,15 @@ fn make_room<V: Drop>(entries: &mut Vec<(Name, Option<V>)>, first: usize, room: 
         return first;
     }
     pack(entries);
+    note_all(entries, hints);
     0
+}
+
+// Remembers where each name stands.
+fn note_all<V>(entries: &[(Name, Option<V>)], hints: &mut Hints) {
+    'entries: for (at, entry) in entries.iter().enumerate() {
+        hints.note(entry.0, at);
+    }
 }
 
 // Lets go of the names that have no value.
