@@ -5,7 +5,6 @@ use Rattle.dl_text.specs.declared.token.Token.{Token}
 use Rattle.dl_text.specs.Text.{AreTokens}
 use Rattle.dl_grammar.specs.Grammar.{finish, repeat}
 use Rattle.dl_grammar.specs.Readers as read
-use Rattle.dl_grammar.specs.Rules.{module_text}
 use Rattle.dl_grammar.specs.Texts.{is_text, lexemes_of, tree_of, Spells}
 use Rattle.dl_grammar.proofs.Exact.{judged, Judged}
 use Rattle.dl_grammar.proofs.GoodDeclarations.{good_module}
