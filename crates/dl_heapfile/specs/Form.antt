@@ -1,5 +1,5 @@
 -- The form of the heap part of a report, and what a text that has it tells.
-use Rattle.std.specs.Prelude.{◌≡◌, ◌≢◌, ◌+◌, ◌<◌, ◌≤◌, ◌==◌, ◌&&◌, ℕ, Bool, true, false, not, Result, Ok, Err, List, [], ◌∷◌, ◌++◌, length, drop, codes, All, if◌then◌else◌}
+use Rattle.std.specs.Prelude.{◌≡◌, ◌≢◌, ◌+◌, ◌<◌, ◌≤◌, ◌&&◌, ℕ, Bool, false, not, Result, Ok, Err, List, [], ◌∷◌, ◌++◌, length, take, drop, slice_get, Some, codes, All}
 use Rattle.std.specs.List.{prefix_len, take_while}
 use Rattle.std.specs.declared.cmp.Ordering.TheVariants.{Less}
 use Rattle.dl_ir.specs.declared.modules.Module.{Module}
@@ -10,7 +10,7 @@ use Rattle.dl_history.specs.Report.{heap_part}
 use Rattle.dl_text.specs.Bytes.{is_blank, is_digit, AllAre}
 use Rattle.dl_heapfile.specs.declared.fault.HeapFault.{HeapFault}
 use Rattle.dl_heapfile.specs.declared.fault.HeapFault.TheVariants.{BadLine}
-use Rattle.dl_heapfile.specs.Lines.{BeginsWith, is_within}
+use Rattle.dl_heapfile.specs.Lines.{BeginsWith, HasForm, IsSmallName, is_within}
 
 -- ---- where the heap part begins
 
@@ -82,3 +82,16 @@ pub data Tells (source : Module) : List (Name × Obj) → ℕ → List ℕ → R
   more : {before : List (Name × Obj)} {line b : ℕ} {text rest : List ℕ} → IsLast source before text (b ∷ rest) → Tells source before line text (Err (BadLine (line + 1)))
   wrong : {before : List (Name × Obj)} {line : ℕ} {text : List ℕ} → ((entry : Name × Obj) (rest : List ℕ) → IsNext source before text entry rest → ⊥)
       → ((rest : List ℕ) → IsLast source before text rest → ⊥) → Tells source before line text (Err (BadLine line))
+
+-- ---- the objects of a heap part
+
+-- each object stands where it may behind those before it, and has a name and a form that a line can tell
+pub record AreListed (source : Module) (entries : List (Name × Obj)) : Type 0 where
+  pub each : (at : ℕ) (entry : Name × Obj) → slice_get entries at ≡ Some entry → MayFollow source (take at entries) entry
+  pub names : (at : ℕ) (entry : Name × Obj) → slice_get entries at ≡ Some entry → IsSmallName entry.0
+  pub forms : (at : ℕ) (entry : Name × Obj) → slice_get entries at ≡ Some entry → HasForm source entry.1
+
+-- they are listed, and all roots are among them
+pub record AreInPlace (source : Module) (entries : List (Name × Obj)) : Type 0 where
+  pub listed : AreListed source entries
+  pub all_roots : root_count source ≤ length entries
