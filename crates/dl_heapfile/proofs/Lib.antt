@@ -3,3 +3,9 @@ pub mod ValuesRead
 pub mod LinesRead
 pub mod Cuts
 pub mod FeedFree
+pub mod Rising
+pub mod Listed
+pub mod Starting
+pub mod Spelled
+pub mod Reread
+pub mod Once
