@@ -6,3 +6,9 @@ pub mod FeedFree
 pub mod Roots
 pub mod Placed
 pub mod Heads
+pub mod Rising
+pub mod Listed
+pub mod Starting
+pub mod Spelled
+pub mod Reread
+pub mod Once

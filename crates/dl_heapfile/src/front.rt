@@ -78,6 +78,7 @@ pub fn find_heap(bytes: &[u8]) -> Result<(u32, &[u8]), HeapFault>
 }
 
 /// The heap line: the digits of its two numbers, and what is behind it.
+#[derive(Drop)]
 pub struct Head<'a> {
     pub objects: &'a [u8],
     pub hidden: &'a [u8],
