@@ -12,3 +12,4 @@ pub mod Starting
 pub mod Spelled
 pub mod Reread
 pub mod Once
+pub mod Whole

@@ -1,0 +1,25 @@
+-- The whole of a heap file, from what its parts say.
+use Rattle.std.proofs.Common.{◌≡◌, ◌≢◌, ℕ, ◌+◌, List, [], sym, subst, Result, Ok, Err}
+use Rattle.std.specs.Prelude.{MatchResult}
+use Rattle.dl_ir.specs.declared.modules.Module.{Module}
+use Rattle.dl_ir.specs.declared.names.Name.{Name}
+use Rattle.dl_ir.specs.declared.objects.Obj.{Obj}
+use Rattle.dl_ir.specs.Heap.{Objects, View}
+use Rattle.dl_heapfile.specs.declared.fault.HeapFault.{HeapFault}
+use Rattle.dl_heapfile.specs.declared.fault.HeapFault.TheVariants.{NoHeap, BadLine, Count, Memory}
+use Rattle.dl_heapfile.specs.Form.{BeginsAt, IsHead, Tells}
+use Rattle.dl_heapfile.specs.Faults.{HasNoHeap, IsOfForm, IsCounted, Builds, Reads}
+
+pub no_heap_read : (source : Module) (places : ℕ) (bytes : List ℕ) (fault : HeapFault) → ((line : ℕ) × (fault ≡ NoHeap line) × HasNoHeap bytes line) → Reads source places bytes (Err fault)
+no_heap_read source places bytes fault found = subst (λ (f : HeapFault). Reads source places bytes (Err f)) (sym found.1) (Reads.no_heap found.0 found.2)
+
+pub form_read : (source : Module) (bytes text objects hidden rest : List ℕ) (line : ℕ) (es : List (Name × Obj)) → BeginsAt bytes line text → IsHead text objects hidden rest → Tells source [] (line + 1) rest (Ok es)
+    → IsOfForm source bytes line objects hidden es
+form_read source bytes text objects hidden rest line es begins head tells = record { text = text; rest = rest; begins = begins; head = head; tells = tells }
+
+-- what is built of the objects is what is read
+pub built_read : (source : Module) (places : ℕ) (bytes objects hidden : List ℕ) (line : ℕ) (slice es : List (Name × Obj)) (r : Result View HeapFault) → slice ≡ es → IsOfForm source bytes line objects hidden es → IsCounted objects hidden es
+    → MatchResult r (λ heap. Builds source places line slice (Ok heap.objects)) (λ fault. fault ≢ Memory → Builds source places line slice (Err fault))
+    → MatchResult r (λ heap. Reads source places bytes (Ok heap.objects)) (λ fault. fault ≢ Memory → Reads source places bytes (Err fault))
+built_read source places bytes objects hidden line slice es (Ok heap) same form counted built = Reads.counted form counted (subst (λ (l : List (Name × Obj)). Builds source places line l (Ok heap.objects)) same built)
+built_read source places bytes objects hidden line slice es (Err fault) same form counted built = λ not. Reads.counted form counted (subst (λ (l : List (Name × Obj)). Builds source places line l (Err fault)) same (built not))
