@@ -9,3 +9,5 @@ pub mod Starting
 pub mod Spelled
 pub mod Reread
 pub mod Once
+pub mod Filling
+pub mod Small
