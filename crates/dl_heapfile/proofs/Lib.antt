@@ -12,4 +12,6 @@ pub mod Starting
 pub mod Spelled
 pub mod Reread
 pub mod Once
+pub mod Filling
+pub mod Small
 pub mod Whole

@@ -1,6 +1,6 @@
 //! The heap of the objects that a heap file tells, or their first fault.
 
-ghost use Rattle.std.specs.Prelude.{◌≡◌, ◌≢◌, ◌+◌, ◌<◌, ◌≤◌, ℕ, true, false, [], ◌∷◌, ◌++◌, IfOk, MatchOption, MatchResult, Ok, Err, Some, length, map, slice_get};
+ghost use Rattle.std.specs.Prelude.{◌≡◌, ◌≢◌, ◌+◌, ◌<◌, ◌≤◌, ℕ, true, false, [], ◌∷◌, ◌++◌, IfOk, MatchOption, MatchResult, Ok, Err, Some, length, map, filter, nat_lt, slice_get};
 ghost use Rattle.std.specs.FinMap as finite;
 ghost use Rattle.dl_ir.specs.declared.modules.FieldDecl.{FieldDecl as Decl};
 ghost use Rattle.dl_ir.specs.declared.names.Name.{Name as OneName};
@@ -19,13 +19,20 @@ use crate::fault::HeapFault;
 use dl_ir::{FieldDecl, Fields, Heap, Module, Name, Obj, Ty, Value};
 use std::alloc::{AllocError, Global};
 
+// The number of hidden objects among these.
+fn hidden_among(entries: &[(Name, Obj)]) -> usize
+    ensures { result ≡ length (filter (λ (entry : OneName × OneObj). nat_lt 0 entry.0.ticket) entries.now) }
+{
+    entries.iter().filter(|entry| entry.0.ticket > 0).count()
+}
+
 /// The number of hidden objects among these.
 pub fn hidden_in(source: &Module, entries: &[(Name, Obj)]) -> usize
     requires { AreInPlace source.now entries.now }
     ensures count { result ≡ hidden_count (heap_of entries.now) }
     ensures roots { root_count source.now + result ≡ length entries.now }
 {
-    entries.iter().filter(|entry| entry.0.ticket > 0).count()
+    hidden_among(entries)
 }
 
 // The object with null in each field.
@@ -50,8 +57,8 @@ fn put_emptied(heap: &mut Heap, entries: &[(Name, Obj)])
     requires room { finite.len heap.old.objects + length entries.now ≤ heap.old.room }
     ensures { heap.new ≡ record heap.old { objects = added heap.old.objects (map emptied_entry entries.now) } }
 {
-    for (name, object) in entries {
-        heap.put(*name, emptied(object));
+    for entry in entries {
+        heap.put(entry.0, emptied(&entry.1));
     }
 }
 
@@ -71,8 +78,8 @@ fn write_all(heap: &mut Heap, entries: &[(Name, Obj)])
     requires there { (at : ℕ) (entry : OneName × OneObj) → slice_get entries.now at ≡ Some entry → finite.get heap.old.objects entry.0 ≡ Some (emptied entry.1) }
     ensures { heap.new ≡ record heap.old { objects = added heap.old.objects entries.now } }
 {
-    for (name, object) in entries {
-        write(heap, *name, object);
+    for entry in entries {
+        write(heap, entry.0, &entry.1);
     }
 }
 

@@ -27,8 +27,8 @@ pub fn is_spelt_once()
     ensures { IsSpeltOnce }
 {}
 
-fn number_is_small(_number: i64)
-    ensures { IsSmall _number }
+fn number_is_small(number: i64)
+    ensures { IsSmall number }
 {}
 
 fn value_is_small(value: Value)
