@@ -182,7 +182,12 @@ fn first_misshapen(heap: &Heap, entries: &[(Name, Obj)]) -> Option<usize>
 }
 
 // The line of the first object with a fault of its own, by its fault.
-fn first_fault(source: &Module, heap: &Heap, line: u32, entries: &[(Name, Obj)]) -> Option<HeapFault>
+fn first_fault(
+    source: &Module,
+    heap: &Heap,
+    line: u32,
+    entries: &[(Name, Obj)],
+) -> Option<HeapFault>
     requires forms { (at : ℕ) (entry : OneName × OneObj) → slice_get entries.now at ≡ Some entry → HasForm source.now entry.1 }
     requires short { line + length entries.now < 4294967295 }
     ensures { MatchOption result (Every (RefersWell source.now heap.now.objects) entries.now × Every (HasOneField heap.now.objects) entries.now) (IsObjectFault source.now heap.now.objects line entries.now) }
