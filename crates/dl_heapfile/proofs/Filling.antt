@@ -1,5 +1,5 @@
 -- How a heap is filled: objects with null in each field first, and then what their fields hold.
-use Rattle.std.proofs.Common.{◌≡◌, ℕ, zero, suc, ◌+◌, ◌<◌, ◌≤◌, Bool, true, false, cond, inl, inr, List, [], ◌∷◌, ◌++◌, length, take, drop, map, refl, sym, ap, subst, ◌∙◌, Option, Some, None, arith}
+use Rattle.std.proofs.Common.{◌≡◌, ℕ, zero, suc, ◌+◌, ◌<◌, ◌≤◌, inl, inr, List, [], ◌∷◌, ◌++◌, length, take, drop, map, refl, sym, ap, subst, ◌∙◌, Some, arith}
 use Rattle.std.specs.Prelude.{Ok, Err}
 use Rattle.std.specs.List.{slice_get, slice_set}
 use Rattle.std.proofs.lemmas.Bool.{cases_lt}
@@ -10,13 +10,10 @@ use Rattle.std.proofs.lemmas.List.{length-map, length-take-le}
 use Rattle.dl_ir.specs.declared.modules.FieldDecl.{FieldDecl}
 use Rattle.dl_ir.specs.declared.modules.KindDecl.{KindDecl}
 use Rattle.dl_ir.specs.declared.modules.Module.{Module}
-use Rattle.dl_ir.specs.declared.modules.Ty.{Ty}
-use Rattle.dl_ir.specs.declared.modules.Ty.TheVariants.{Int, Of}
 use Rattle.dl_ir.specs.declared.names.Name.{Name}
 use Rattle.dl_ir.specs.declared.names.Value.{Value}
-use Rattle.dl_ir.specs.declared.names.Value.TheVariants as values
 use Rattle.dl_ir.specs.declared.objects.Obj.{Obj}
-use Rattle.dl_ir.specs.Heap.{Objects, name_cmp, with_field, with_field_of, HasStart, HasType, hidden_count}
+use Rattle.dl_ir.specs.Heap.{Objects, with_field, with_field_of, HasStart, HasType, hidden_count}
 use Rattle.dl_ir.proofs.NameOrder.{names_total, exact_names}
 use Rattle.dl_ir.proofs.Lookups.{same_or_not, got_put, got_beside}
 use Rattle.dl_heapfile.specs.Blanks.{nothing, emptied, IsObjectFault}

@@ -1,18 +1,17 @@
 -- What the order and the form of a heap part's lines say of its objects.
-use Rattle.std.proofs.Common.{◌≡◌, ℕ, zero, suc, ◌+◌, ◌<◌, ◌≤◌, Bool, true, false, cond, ◌⊎◌, inl, inr, List, [], ◌∷◌, length, take, refl, sym, ap, subst, ◌∙◌, T, Some, None, arith}
+use Rattle.std.proofs.Common.{◌≡◌, ℕ, zero, suc, ◌+◌, ◌<◌, ◌≤◌, true, false, cond, inl, inr, [], ◌∷◌, length, take, refl, sym, ap, subst, ◌∙◌, T, Some, arith}
 use Rattle.std.specs.Prelude.{All, filter, nat_lt}
 use Rattle.std.specs.List.{slice_get}
-use Rattle.std.specs.FinMap as finite
 use Rattle.std.specs.FinMap.{is_sorted}
 use Rattle.std.specs.declared.cmp.Ordering.TheVariants.{Less}
-use Rattle.std.proofs.lemmas.Bool.{cases_lt, lt-ltb}
+use Rattle.std.proofs.lemmas.Bool.{cases_lt}
 use Rattle.std.proofs.lemmas.Bool.Decides.{nat_tests}
 use Rattle.std.proofs.lemmas.List.{length-take-le}
 use Rattle.std.proofs.lemmas.Option.{slice_get_within}
 use Rattle.dl_ir.specs.declared.modules.Module.{Module}
 use Rattle.dl_ir.specs.declared.names.Name.{Name}
 use Rattle.dl_ir.specs.declared.objects.Obj.{Obj}
-use Rattle.dl_ir.specs.Heap.{Objects, name_cmp, root, IsHidden, IsRootOf, IsNodeKind, hidden_count}
+use Rattle.dl_ir.specs.Heap.{name_cmp, root, IsRootOf, IsNodeKind, hidden_count}
 use Rattle.dl_heapfile.specs.Form.{MayFollow, AreListed, AreInPlace, root_count}
 use Rattle.dl_heapfile.specs.Faults.{heap_of}
 use Rattle.dl_heapfile.proofs.Cuts.{all_at}

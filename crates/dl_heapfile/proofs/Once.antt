@@ -1,6 +1,6 @@
 -- A text is read in one way alone.
-use Rattle.std.proofs.Common.{◌≡◌, ◌≢◌, ℕ, zero, suc, ◌+◌, ◌-◌, ◌<◌, ◌≤◌, Bool, true, false, not, cond, ◌&&◌, ◌⊎◌, inl, inr, List, [], ◌∷◌, ◌++◌, length, take, drop, max, refl, sym, ap, ap₂, subst, ◌∙◌, Option, Some, None, arith, append_assoc}
-use Rattle.std.specs.Prelude.{◌==◌, ◌^◌, Result, Ok, Err, codes, decimal, if◌then◌else◌}
+use Rattle.std.proofs.Common.{◌≡◌, ◌≢◌, ℕ, suc, ◌+◌, ◌-◌, ◌<◌, ◌≤◌, Bool, true, false, cond, ◌⊎◌, inl, inr, List, [], ◌∷◌, ◌++◌, length, take, drop, max, refl, sym, ap, ap₂, subst, ◌∙◌, Option, Some, arith, append_assoc}
+use Rattle.std.specs.Prelude.{◌==◌, Result, Ok, Err, codes, decimal, if◌then◌else◌}
 use Rattle.std.specs.List.{slice_get, prefix_len, take_while}
 use Rattle.std.proofs.lemmas.Bool.{cases_lt}
 use Rattle.std.proofs.lemmas.Bool.Decides.{nat_tests}
@@ -8,17 +8,17 @@ use Rattle.dl_ir.specs.declared.modules.KindDecl.{KindDecl}
 use Rattle.dl_ir.specs.declared.modules.Module.{Module}
 use Rattle.dl_ir.specs.declared.names.Name.{Name}
 use Rattle.dl_ir.specs.declared.objects.Obj.{Obj}
-use Rattle.dl_ir.specs.Heap.{Objects, HasStart, hidden_count}
+use Rattle.dl_ir.specs.Heap.{Objects, hidden_count}
 use Rattle.dl_history.specs.Report.{object_text, object_line, name_text}
 use Rattle.dl_text.specs.Bytes.{is_blank, is_digit, AllAre}
 use Rattle.dl_heapfile.specs.declared.fault.HeapFault.{HeapFault}
 use Rattle.dl_heapfile.specs.declared.fault.HeapFault.TheVariants.{NoHeap, BadLine, Count, Dangling, Shape}
-use Rattle.dl_heapfile.specs.Lines.{IsSmallName, HasForm, TellsOf, BeginsWith, is_within}
+use Rattle.dl_heapfile.specs.Lines.{TellsOf, BeginsWith, is_within}
 use Rattle.dl_heapfile.specs.Names.{HasNames}
 use Rattle.dl_heapfile.specs.Reading.{entry}
-use Rattle.dl_heapfile.specs.Form.{goes_on, first_word, Skips, BeginsAt, IsHead, IsNext, IsLast, Tells}
-use Rattle.dl_heapfile.specs.Faults.{heap_of, HasNoHeap, IsOfForm, IsCounted, Every, FailsFirst, RefersWell, HasOneField, Builds, Reads}
-use Rattle.dl_heapfile.specs.Laws.{IsReadOnce, IsSpeltOnce, IsWellRead, HoldsSmall}
+use Rattle.dl_heapfile.specs.Form.{goes_on, first_word, Skips, BeginsAt, IsHead, Tells}
+use Rattle.dl_heapfile.specs.Faults.{HasNoHeap, IsCounted, Every, FailsFirst, Builds, Reads}
+use Rattle.dl_heapfile.specs.Laws.{IsReadOnce, IsSpeltOnce}
 use Rattle.dl_heapfile.proofs.NumbersRead.{front_taken, front_dropped, decimal_digits, decimal_plain, plain_lead}
 use Rattle.dl_heapfile.proofs.LinesRead.{entry_written}
 use Rattle.dl_heapfile.proofs.FeedFree.{line_within, same_front, fed}

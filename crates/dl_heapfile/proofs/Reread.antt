@@ -1,13 +1,13 @@
 -- The printed part of a heap from which a run may start is a heap file of it.
-use Rattle.std.proofs.Common.{◌≡◌, ℕ, ℤ, zero, suc, ◌+◌, ◌<◌, ◌≤◌, ◌*◌, Bool, true, false, cond, ◌⊎◌, inl, inr, List, [], ◌∷◌, ◌++◌, length, take, max, fold, get_or, refl, sym, ap, subst, ◌∙◌, T, Some, None, arith, append_assoc, length-append, pos, negsuc}
-use Rattle.std.specs.Prelude.{◌^◌, All, Result, Ok, codes, decimal}
+use Rattle.std.proofs.Common.{◌≡◌, ℕ, ℤ, zero, suc, ◌+◌, ◌<◌, ◌≤◌, true, false, inl, inr, List, [], ◌∷◌, ◌++◌, length, take, max, fold, get_or, refl, sym, ap, subst, ◌∙◌, Some, None, arith, append_assoc, length-append}
+use Rattle.std.specs.Prelude.{◌^◌, All, Ok, codes, decimal}
 use Rattle.std.specs.List.{slice_get, flat_map}
 use Rattle.std.specs.Cmp.{ranked}
 use Rattle.std.specs.Ordering.{nat_cmp, ordering_then}
 use Rattle.std.specs.declared.cmp.Ordering.{Ordering}
 use Rattle.std.specs.declared.cmp.Ordering.TheVariants.{Less, Equal, Greater}
 use Rattle.std.specs.FinMap as finite
-use Rattle.std.specs.FinMap.{is_sorted, entries_sorted}
+use Rattle.std.specs.FinMap.{entries_sorted}
 use Rattle.std.proofs.lemmas.Bool.{cases_lt}
 use Rattle.std.proofs.lemmas.Cmp.{tied_itself}
 use Rattle.std.proofs.lemmas.List.{length-take-le}
@@ -21,16 +21,15 @@ use Rattle.dl_ir.specs.declared.names.Name.{Name}
 use Rattle.dl_ir.specs.declared.names.Value.{Value}
 use Rattle.dl_ir.specs.declared.names.Value.TheVariants as values
 use Rattle.dl_ir.specs.declared.objects.Obj.{Obj}
-use Rattle.dl_ir.specs.Heap.{Objects, name_cmp, root, roots_of, StandInRow, HasStart, HasRootsAt, HasType, HasFields, IsHidden, IsRootOf, IsNodeKind, IsHeapOf, roots_from, blank_object, hidden_count}
+use Rattle.dl_ir.specs.Heap.{Objects, name_cmp, root, roots_of, StandInRow, HasStart, HasRootsAt, HasType, HasFields, IsHidden, roots_from, blank_object, hidden_count}
 use Rattle.dl_ir.specs.References.{refs}
 use Rattle.dl_ir.proofs.NameOrder.{names_total}
-use Rattle.dl_history.specs.Report.{name_text, object_text, object_line, heap_part}
-use Rattle.dl_text.specs.Bytes.{is_digit, AllAre}
-use Rattle.dl_shape.specs.Startable.{greatest_ticket, IsStartable}
+use Rattle.dl_history.specs.Report.{name_text, object_text, object_line}
+use Rattle.dl_shape.specs.Startable.{IsStartable}
 use Rattle.dl_heapfile.specs.Lines.{IsSmall, IsSmallName, MayHold, AllMayHold, HasForm}
-use Rattle.dl_heapfile.specs.Form.{BeginsAt, Skips, MayFollow, AreListed, AreInPlace, IsHead, IsDecimal, SpellsHeap, root_count}
-use Rattle.dl_heapfile.specs.Faults.{heap_of, IsOfForm, IsCounted, Builds, Reads}
-use Rattle.dl_heapfile.specs.Laws.{IsWellRead, HoldsSmall, WhatIsSpeltIsRead}
+use Rattle.dl_heapfile.specs.Form.{Skips, MayFollow, AreInPlace, IsDecimal, root_count}
+use Rattle.dl_heapfile.specs.Faults.{Builds, Reads}
+use Rattle.dl_heapfile.specs.Laws.{HoldsSmall, WhatIsSpeltIsRead}
 use Rattle.dl_heapfile.proofs.NumbersRead.{decimal_plain, plain_lead, decimal_digits}
 use Rattle.dl_heapfile.proofs.Rising.{Entries, Rise, one_at, same_some, front_get, rise_sorted, get_there, there_got, heap_of-entries}
 use Rattle.dl_heapfile.proofs.Listed.{in_all}

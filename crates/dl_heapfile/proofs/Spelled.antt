@@ -1,8 +1,7 @@
 -- The lines of a heap part and its objects: what the lines tell is what they print, and what is printed is told.
-use Rattle.std.proofs.Common.{◌≡◌, ℕ, zero, suc, ◌+◌, ◌<◌, ◌≤◌, ◌⊎◌, inl, inr, List, [], ◌∷◌, ◌++◌, length, take, refl, sym, ap, subst, ◌∙◌, Some, None, arith, append_assoc, length-append}
-use Rattle.std.specs.Prelude.{Result, Ok, Err, codes, decimal}
+use Rattle.std.proofs.Common.{◌≡◌, ℕ, zero, suc, ◌+◌, ◌<◌, ◌≤◌, inl, inr, List, [], ◌∷◌, ◌++◌, length, take, refl, sym, ap, subst, ◌∙◌, Some, arith, append_assoc}
+use Rattle.std.specs.Prelude.{Result, Ok, codes, decimal}
 use Rattle.std.specs.List.{slice_get, flat_map}
-use Rattle.std.specs.FinMap as finite
 use Rattle.std.proofs.lemmas.Bool.{cases_lt}
 use Rattle.std.proofs.lemmas.List.{append-nil, take-append-le}
 use Rattle.std.proofs.lemmas.Option.{slice_get_within}
@@ -11,11 +10,11 @@ use Rattle.dl_ir.specs.declared.modules.Module.{Module}
 use Rattle.dl_ir.specs.declared.names.Name.{Name}
 use Rattle.dl_ir.specs.declared.objects.Obj.{Obj}
 use Rattle.dl_ir.specs.Heap.{Objects, HasStart, hidden_count}
-use Rattle.dl_history.specs.Report.{object_line, heap_part}
+use Rattle.dl_history.specs.Report.{object_line}
 use Rattle.dl_heapfile.specs.declared.fault.HeapFault.{HeapFault}
-use Rattle.dl_heapfile.specs.Lines.{IsSmallName, HasForm, BeginsWith}
-use Rattle.dl_heapfile.specs.Form.{MayFollow, AreListed, AreInPlace, IsNext, IsLast, Tells, SpellsHeap, root_count}
-use Rattle.dl_heapfile.specs.Faults.{heap_of, IsOfForm, IsCounted, Every, RefersWell, HasOneField, Builds, Reads}
+use Rattle.dl_heapfile.specs.Lines.{IsSmallName, HasForm}
+use Rattle.dl_heapfile.specs.Form.{MayFollow, AreListed, AreInPlace, Tells}
+use Rattle.dl_heapfile.specs.Faults.{heap_of, Every, RefersWell, HasOneField, Builds, Reads}
 use Rattle.dl_heapfile.specs.Laws.{IsWellRead, WhatIsReadIsSpelt}
 use Rattle.dl_heapfile.proofs.Rising.{Entries, same_some, entries-heap_of}
 use Rattle.dl_heapfile.proofs.Listed.{sorted}

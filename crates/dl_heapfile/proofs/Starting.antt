@@ -1,17 +1,16 @@
 -- The heap of a heap file without a fault is one from which a run may start.
-use Rattle.std.proofs.Common.{◌≡◌, ℕ, zero, suc, ◌+◌, ◌<◌, ◌≤◌, true, false, cond, ◌⊎◌, inl, inr, List, [], ◌∷◌, ◌++◌, length, max, fold, refl, sym, ap, subst, ◌∙◌, T, Some, None, arith, length-append}
+use Rattle.std.proofs.Common.{◌≡◌, ℕ, zero, suc, ◌+◌, ◌<◌, ◌≤◌, true, false, ◌⊎◌, inl, inr, List, [], ◌∷◌, length, max, fold, refl, sym, ap, subst, ◌∙◌, T, Some, arith, length-append}
 use Rattle.std.specs.List.{slice_get}
 use Rattle.std.specs.FinMap as finite
 use Rattle.std.specs.FinMap.{is_sorted}
 use Rattle.std.proofs.lemmas.Bool.{cases_lt}
-use Rattle.std.proofs.lemmas.Option.{slice_get_within}
 use Rattle.dl_ir.specs.declared.modules.KindDecl.{KindDecl}
 use Rattle.dl_ir.specs.declared.modules.Module.{Module}
 use Rattle.dl_ir.specs.declared.names.Name.{Name}
 use Rattle.dl_ir.specs.declared.objects.Obj.{Obj}
-use Rattle.dl_ir.specs.Heap.{Objects, name_cmp, root, roots_from, roots_of, blank_object, StandInRow, HasRootsAt, HasStart, IsHidden, IsRootOf, IsNodeKind, IsHeapOf, HasFields}
-use Rattle.dl_shape.specs.Startable.{greatest_ticket, IsStartable}
-use Rattle.dl_heapfile.specs.Form.{AreListed, AreInPlace, root_count}
+use Rattle.dl_ir.specs.Heap.{Objects, name_cmp, root, roots_from, roots_of, blank_object, StandInRow, HasStart, IsRootOf, IsHeapOf}
+use Rattle.dl_shape.specs.Startable.{IsStartable}
+use Rattle.dl_heapfile.specs.Form.{AreInPlace, root_count}
 use Rattle.dl_heapfile.specs.Faults.{heap_of, Every, RefersWell, HasOneField}
 use Rattle.dl_heapfile.proofs.Rising.{Entries, one_at, same_some, get_there, there_got, entries-heap_of}
 use Rattle.dl_heapfile.proofs.Listed.{IsRootAt, IsHiddenBehind, root_at, hidden_at, sorted}

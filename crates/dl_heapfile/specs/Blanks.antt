@@ -1,5 +1,5 @@
 -- Objects with null in each field, as a heap holds them before what they refer to is there, and the faults of single objects.
-use Rattle.std.specs.Prelude.{◌≡◌, ◌+◌, ℕ, None, List, map}
+use Rattle.std.specs.Prelude.{◌+◌, ℕ, None, List, map}
 use Rattle.dl_ir.specs.declared.modules.Module.{Module}
 use Rattle.dl_ir.specs.declared.names.Name.{Name}
 use Rattle.dl_ir.specs.declared.names.Value.{Value}

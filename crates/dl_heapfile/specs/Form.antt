@@ -1,5 +1,5 @@
 -- The form of the heap part of a report, and what a text that has it tells.
-use Rattle.std.specs.Prelude.{◌≡◌, ◌≢◌, ◌+◌, ◌<◌, ◌≤◌, ◌==◌, ◌&&◌, ℕ, Bool, true, false, not, Some, slice_get, Result, Ok, Err, List, [], ◌∷◌, ◌++◌, length, take, drop, codes, All, if◌then◌else◌}
+use Rattle.std.specs.Prelude.{◌≡◌, ◌≢◌, ◌+◌, ◌<◌, ◌≤◌, ◌&&◌, ℕ, Bool, false, not, Some, slice_get, Result, Ok, Err, List, [], ◌∷◌, ◌++◌, length, take, drop, codes, All}
 use Rattle.std.specs.List.{prefix_len, take_while}
 use Rattle.std.specs.declared.cmp.Ordering.TheVariants.{Less}
 use Rattle.dl_ir.specs.declared.modules.Module.{Module}

@@ -1,4 +1,4 @@
-use Rattle.std.proofs.Common.{◌≡◌, ◌<◌, ◌≤◌, length, refl, arith, Some, pos, get_or}
+use Rattle.std.proofs.Common.{◌≡◌, length, refl, arith, Some, pos, get_or}
 use Rattle.std.specs.List.{slice_get}
 use Rattle.std.proofs.lemmas.Option.{slice_get_read, slice_get-get_or, slice_get_within}
 use Rattle.dl_ir.specs.declared.names.Value.TheVariants.{Int}

@@ -1,6 +1,5 @@
-use Rattle.std.proofs.Common.{◌≡◌, ap, arith}
+use Rattle.std.proofs.Common.{ap, arith}
 use Rattle.dl_ir.specs.Heap.{View}
-use Rattle.dl_heapfile.specs.Faults.{heap_of}
 use Rattle.dl_heapfile.proofs.Filling.{few_held, object_fault, too_many, built}
 use Rattle.dl_heapfile.proofs.Listed.{sorted}
 use Rattle.dl_heapfile.proofs.Rising.{yes}
