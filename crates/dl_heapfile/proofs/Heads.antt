@@ -1,17 +1,17 @@
 -- Where the heap part begins, and its heap line: what is read is what is written, and what is written is read.
-use Rattle.std.proofs.Common.{◌≡◌, ◌≢◌, ℕ, zero, suc, ◌+◌, ◌-◌, ◌<◌, ◌≤◌, Bool, true, false, not, cond, List, [], ◌∷◌, ◌++◌, length, take, drop, get_or, refl, sym, ap, ap₂, subst, ◌∙◌, Option, Some, None, arith, append_assoc, length-append}
-use Rattle.std.specs.Prelude.{◌==◌, ◌↔◌, max, codes, decimal, nat_le, option_and_then, if◌then◌else◌, ◌^◌}
+use Rattle.std.proofs.Common.{◌≡◌, ◌≢◌, ℕ, zero, suc, ◌+◌, ◌-◌, ◌<◌, ◌≤◌, Bool, true, false, not, cond, List, [], ◌∷◌, ◌++◌, length, take, drop, refl, sym, ap, ap₂, subst, ◌∙◌, Option, Some, None, arith, append_assoc, length-append}
+use Rattle.std.specs.Prelude.{◌==◌, ◌↔◌, max, codes, decimal, option_and_then, if◌then◌else◌, ◌^◌}
 use Rattle.std.specs.Option.{option_map}
 use Rattle.std.specs.List.{prefix_len, take_while}
 use Rattle.std.proofs.lemmas.Bool.Decides.{nat_tests}
 use Rattle.std.proofs.lemmas.List.{take-append-drop, append-nil}
 use Rattle.dl_text.specs.Bytes.{is_blank, is_digit, AllAre}
 use Rattle.dl_text.specs.Text.{Ends}
-use Rattle.dl_heapfile.specs.Form.{goes_on, first_word, Skips, BeginsAt, IsDecimal, IsHead}
+use Rattle.dl_heapfile.specs.Form.{goes_on, first_word, Skips, IsDecimal, IsHead}
 use Rattle.dl_heapfile.specs.Faults.{HasNoHeap}
 use Rattle.dl_heapfile.specs.Lines.{is_within}
 use Rattle.dl_heapfile.specs.Reading.{behind, is_plain, plain, number, head, head_kept, head_ended}
-use Rattle.dl_heapfile.proofs.NumbersRead.{then_some, map_some, front_taken, front_dropped, front_all, front_ends, IsNumber, number_read, number_written}
+use Rattle.dl_heapfile.proofs.NumbersRead.{then_some, map_some, front_taken, front_dropped, front_all, IsNumber, number_read, number_written}
 use Rattle.dl_heapfile.proofs.ValuesRead.{behind_read, behind_written}
 
 -- ---- the first word

@@ -32,11 +32,11 @@ pub record IsHiddenBehind (source : Module) (before : Entries) (e : Name × Obj)
   pub index : 1 ≤ e.0.index
   pub low_index : e.0.index ≤ 64
 
-follows_root : (source : Module) (before : Entries) (e : Name × Obj) → MayFollow source before e → length before < root_count source → IsRootAt source (length before) e
+pub follows_root : (source : Module) (before : Entries) (e : Name × Obj) → MayFollow source before e → length before < root_count source → IsRootAt source (length before) e
 follows_root source before e (MayFollow.next_root less name of unsealed) low = record { name = name; root_of = of; unsealed = unsealed }
 follows_root source before e (MayFollow.next_hidden many above node ticket low_ticket index low_index) low = absurd (omega (arith, many, low))
 
-follows_hidden : (source : Module) (before : Entries) (e : Name × Obj) → MayFollow source before e → root_count source ≤ length before → IsHiddenBehind source before e
+pub follows_hidden : (source : Module) (before : Entries) (e : Name × Obj) → MayFollow source before e → root_count source ≤ length before → IsHiddenBehind source before e
 follows_hidden source before e (MayFollow.next_root less name of unsealed) many = absurd (omega (arith, less, many))
 follows_hidden source before e (MayFollow.next_hidden many above node ticket low_ticket index low_index) at_least =
     record { above = above; node = node; ticket = ticket; low_ticket = low_ticket; index = index; low_index = low_index }

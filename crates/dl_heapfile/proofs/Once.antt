@@ -1,5 +1,5 @@
 -- A text is read in one way alone.
-use Rattle.std.proofs.Common.{◌≡◌, ◌≢◌, ℕ, suc, ◌+◌, ◌-◌, ◌<◌, ◌≤◌, Bool, true, false, cond, ◌⊎◌, inl, inr, List, [], ◌∷◌, ◌++◌, length, take, drop, max, refl, sym, ap, ap₂, subst, ◌∙◌, Option, Some, arith, append_assoc}
+use Rattle.std.proofs.Common.{◌≡◌, ◌≢◌, ℕ, ◌+◌, ◌-◌, ◌<◌, ◌≤◌, true, false, ◌⊎◌, inl, inr, List, [], ◌∷◌, ◌++◌, length, drop, max, refl, sym, ap, ap₂, subst, ◌∙◌, Option, Some, arith, append_assoc}
 use Rattle.std.specs.Prelude.{◌==◌, Result, Ok, Err, codes, decimal, if◌then◌else◌}
 use Rattle.std.specs.List.{slice_get, prefix_len, take_while}
 use Rattle.std.proofs.lemmas.Bool.{cases_lt}
@@ -10,64 +10,23 @@ use Rattle.dl_ir.specs.declared.names.Name.{Name}
 use Rattle.dl_ir.specs.declared.objects.Obj.{Obj}
 use Rattle.dl_ir.specs.Heap.{Objects, hidden_count}
 use Rattle.dl_history.specs.Report.{object_text, object_line, name_text}
-use Rattle.dl_text.specs.Bytes.{is_blank, is_digit, AllAre}
+use Rattle.dl_text.specs.Bytes.{is_digit, AllAre}
 use Rattle.dl_heapfile.specs.declared.fault.HeapFault.{HeapFault}
 use Rattle.dl_heapfile.specs.declared.fault.HeapFault.TheVariants.{NoHeap, BadLine, Count, Dangling, Shape}
 use Rattle.dl_heapfile.specs.Lines.{TellsOf, BeginsWith, is_within}
 use Rattle.dl_heapfile.specs.Names.{HasNames}
 use Rattle.dl_heapfile.specs.Reading.{entry}
-use Rattle.dl_heapfile.specs.Form.{goes_on, first_word, Skips, BeginsAt, IsHead, Tells}
+use Rattle.dl_heapfile.specs.Form.{first_word, Skips, BeginsAt, IsHead, Tells}
 use Rattle.dl_heapfile.specs.Faults.{HasNoHeap, IsCounted, Every, FailsFirst, Builds, Reads}
 use Rattle.dl_heapfile.specs.Laws.{IsReadOnce, IsSpeltOnce}
 use Rattle.dl_heapfile.proofs.NumbersRead.{front_taken, front_dropped, decimal_digits, decimal_plain, plain_lead}
 use Rattle.dl_heapfile.proofs.LinesRead.{entry_written}
 use Rattle.dl_heapfile.proofs.FeedFree.{line_within, same_front, fed}
+use Rattle.dl_heapfile.proofs.Heads.{word_of_line}
 use Rattle.dl_heapfile.proofs.Rising.{Entries, same_some}
 use Rattle.dl_heapfile.proofs.Reread.{what_is_spelt_is_read}
 
 -- ---- where the heap part begins
-
--- what is behind a line's end is no part of its first word
-one_more : (n : ℕ) → 1 + n ≡ suc n
-one_more n = omega arith
-
-word_cut : (line rest : List ℕ) → AllAre is_within line → take_while goes_on (line ++ (10 ∷ rest)) ≡ take_while goes_on line
-word_cut [] rest within = refl
-word_cut (b ∷ line) rest within = by (goes_on b) (word_cut line rest within.1)
-  where
-    by : (v : Bool) → take_while goes_on (line ++ (10 ∷ rest)) ≡ take_while goes_on line → take (cond v (1 + prefix_len goes_on (line ++ (10 ∷ rest))) 0) (b ∷ line ++ (10 ∷ rest)) ≡ take (cond v (1 + prefix_len goes_on line) 0) (b ∷ line)
-    by true later = ap (λ n. take n (b ∷ line ++ (10 ∷ rest))) (one_more _) ∙ ap (λ (l : List ℕ). b ∷ l) later ∙ sym (ap (λ n. take n (b ∷ line)) (one_more _))
-    by false later = refl
-
--- a line without its blanks in front, alone and with what follows it
-record IsTrimmed (line rest : List ℕ) : Type 0 where
-  left : List ℕ
-  within : AllAre is_within left
-  alone : drop (prefix_len is_blank line) line ≡ left
-  followed : drop (prefix_len is_blank (line ++ (10 ∷ rest))) (line ++ (10 ∷ rest)) ≡ left ++ (10 ∷ rest)
-
-trimmed : (line rest : List ℕ) → AllAre is_within line → IsTrimmed line rest
-trimmed [] rest within = record { left = []; within = tt; alone = refl; followed = refl }
-trimmed (b ∷ line) rest within = by (is_blank b) refl (trimmed line rest within.1)
-  where
-    by : (v : Bool) → is_blank b ≡ v → IsTrimmed line rest → IsTrimmed (b ∷ line) rest
-    by true is later = record {
-      left = later.left;
-      within = later.within;
-      alone = ap (λ v. drop (cond v (1 + prefix_len is_blank line) 0) (b ∷ line)) is ∙ ap (λ n. drop n (b ∷ line)) (one_more _) ∙ later.alone;
-      followed = ap (λ v. drop (cond v (1 + prefix_len is_blank (line ++ (10 ∷ rest))) 0) (b ∷ line ++ (10 ∷ rest))) is ∙ ap (λ n. drop n (b ∷ line ++ (10 ∷ rest))) (one_more _) ∙ later.followed;
-    }
-    by false is later = record {
-      left = b ∷ line;
-      within = within;
-      alone = ap (λ v. drop (cond v (1 + prefix_len is_blank line) 0) (b ∷ line)) is;
-      followed = ap (λ v. drop (cond v (1 + prefix_len is_blank (line ++ (10 ∷ rest))) 0) (b ∷ line ++ (10 ∷ rest))) is;
-    }
-
-word_of_line : (line rest : List ℕ) → AllAre is_within line → first_word (line ++ (10 ∷ rest)) ≡ first_word line
-word_of_line line rest within =
-    let cut = trimmed line rest within in
-    ap (take_while goes_on) cut.followed ∙ word_cut cut.left rest cut.within ∙ sym (ap (take_while goes_on) cut.alone)
 
 -- no line with an end of its own is left, and the one that is left has another first word
 record Stops (found : List ℕ) : Type 0 where
@@ -79,7 +38,7 @@ IsEnd found = (first_word found ≡ codes "heap") ⊎ Stops found
 
 -- no line is skipped at an end
 no_more : (found text rest : List ℕ) → IsEnd found → AllAre is_within text → first_word text ≢ codes "heap" → found ≡ text ++ (10 ∷ rest) → ⊥
-no_more found text rest (inl heap) within other same = other (sym (word_of_line text rest within) ∙ ap first_word (sym same) ∙ heap)
+no_more found text rest (inl heap) within other same = other (sym (word_of_line text rest) ∙ ap first_word (sym same) ∙ heap)
 no_more found text rest (inr stops) within other same = stops.unended text rest same
 
 skips_once : (line one two : ℕ) (bytes text found left : List ℕ) → Skips line bytes one found → Skips line text two left → bytes ≡ text → IsEnd found → IsEnd left → (one ≡ two) × (found ≡ left)

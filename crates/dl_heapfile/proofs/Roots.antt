@@ -1,16 +1,10 @@
--- The roots of a module: how many there are, and their order.
-use Rattle.std.proofs.Common.{◌≡◌, ℕ, zero, suc, ◌+◌, ◌<◌, ◌≤◌, true, false, cond, List, [], ◌∷◌, ◌++◌, length, refl, sym, ap, ◌∙◌, arith, length-append, ◌⊎◌, inl, inr, eqb}
+-- The roots of a module: how many there are.
+use Rattle.std.proofs.Common.{◌≡◌, ℕ, zero, suc, ◌+◌, ◌≤◌, List, [], ◌∷◌, length, refl, ap, arith, length-append}
 use Rattle.std.specs.Prelude.{sum_by}
-use Rattle.std.specs.declared.cmp.Ordering.TheVariants.{Less, Equal, Greater}
-use Rattle.std.proofs.lemmas.Bool.{lt-ltb}
 use Rattle.std.proofs.lemmas.List.Sums.{sum_by-cons}
 use Rattle.dl_ir.specs.declared.modules.KindDecl.{KindDecl}
 use Rattle.dl_ir.specs.declared.objects.Obj.{Obj}
-use Rattle.dl_ir.specs.Heap.{name_cmp, root, roots_from, roots_of, blank_object, StandInRow, HasRootsAt}
-
--- one root before another
-pub below_root : (n m : ℕ) → n < m → name_cmp (root n) (root m) ≡ Less
-below_root n m less = ap (λ b. cond b Less (cond (eqb n m) Equal Greater)) (lt-ltb n m less)
+use Rattle.dl_ir.specs.Heap.{roots_from, roots_of, blank_object, StandInRow}
 
 length-roots_from : (first count : ℕ) (o : Obj) → length (roots_from first count o) ≡ count
 length-roots_from first zero o = refl

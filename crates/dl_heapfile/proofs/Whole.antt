@@ -6,7 +6,7 @@ use Rattle.dl_ir.specs.declared.names.Name.{Name}
 use Rattle.dl_ir.specs.declared.objects.Obj.{Obj}
 use Rattle.dl_ir.specs.Heap.{Objects, View, HasStart}
 use Rattle.dl_heapfile.specs.declared.fault.HeapFault.{HeapFault}
-use Rattle.dl_heapfile.specs.declared.fault.HeapFault.TheVariants.{NoHeap, BadLine, Count, Memory}
+use Rattle.dl_heapfile.specs.declared.fault.HeapFault.TheVariants.{NoHeap, Memory}
 use Rattle.dl_heapfile.specs.Form.{BeginsAt, IsHead, Tells}
 use Rattle.dl_heapfile.specs.Faults.{HasNoHeap, IsOfForm, IsCounted, Builds, Reads}
 use Rattle.dl_heapfile.specs.Laws.{IsWellRead}

@@ -1,4 +1,4 @@
-use Rattle.std.proofs.Common.{◌≡◌, ◌+◌, ◌≤◌, List, ℕ, ◌∷◌, ◌++◌, true, false, length, arith, refl, sym, ap, subst, ◌∙◌, length-append}
+use Rattle.std.proofs.Common.{◌≡◌, ◌+◌, ◌≤◌, List, ℕ, ◌∷◌, ◌++◌, true, false, length, arith, refl, sym, subst, length-append}
 use Rattle.dl_heapfile.specs.Form.{Skips}
 use Rattle.dl_heapfile.specs.Faults.{HasNoHeap}
 use Rattle.dl_heapfile.proofs.Heads.{one_line_on, no_heap_left}

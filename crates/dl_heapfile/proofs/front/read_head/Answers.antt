@@ -1,5 +1,4 @@
 use Rattle.std.proofs.Common.{◌≡◌, sym, ◌∙◌, Some, None, List, ℕ}
-use Rattle.dl_heapfile.specs.Reading.{head}
 use Rattle.dl_heapfile.proofs.Heads.{head_read, head_written, head_shorter}
 use Rattle.dl_heapfile.proofs.front.read_head.Goals as goal
 

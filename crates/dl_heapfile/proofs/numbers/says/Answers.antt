@@ -1,4 +1,4 @@
-use Rattle.std.proofs.Common.{◌≡◌, arith}
+use Rattle.std.proofs.Common.{arith}
 use Rattle.std.proofs.lemmas.Bool.Decides.{nat_tests}
 use Rattle.dl_heapfile.proofs.Heads.{none_said, other_said, this_said}
 use Rattle.dl_heapfile.proofs.numbers.says.Goals as goal

@@ -1,5 +1,5 @@
 use Rattle.std.proofs.Common.{sym}
-use Rattle.dl_heapfile.proofs.Placed.{last_decides, none_above}
+use Rattle.dl_heapfile.proofs.Placed.{last_decides}
 use Rattle.dl_heapfile.proofs.objects.is_above.Goals as goal
 
 pub returns-in-Some : goal.returns-in-Some
