@@ -1,6 +1,6 @@
 -- The line of an object has no line feed in it, so it is the first line of each text that it begins.
-use Rattle.std.proofs.Common.{◌≡◌, ℕ, ℤ, zero, suc, ◌+◌, ◌-◌, ◌<◌, ◌≤◌, Bool, true, false, not, List, [], ◌∷◌, ◌++◌, length, refl, sym, ap, ap₂, subst, ◌∙◌, Option, Some, None, arith, pos, negsuc, append_assoc, take, drop}
-use Rattle.std.specs.Prelude.{◌==◌, ◌^◌, codes, decimal, slice_get}
+use Rattle.std.proofs.Common.{◌≡◌, ℕ, ℤ, suc, ◌-◌, ◌<◌, ◌≤◌, Bool, true, false, List, [], ◌∷◌, ◌++◌, length, refl, sym, ap, ap₂, subst, ◌∙◌, Option, Some, None, arith, pos, negsuc, append_assoc, take, drop}
+use Rattle.std.specs.Prelude.{◌^◌, codes, decimal}
 use Rattle.std.specs.Fmt.{signed_decimal}
 use Rattle.std.specs.List.{prefix_len}
 use Rattle.std.proofs.lemmas.List.{take-append-drop, append-nil}
@@ -78,7 +78,7 @@ line_within source line e names tells =
     subst (AllAre is_within) (sym (line_is source line e tells)) (joined is_within (name_text e.0) (codes " " ++ object_text e.1 (Some kind)) (named e.0 tells.name) (refl, told))
 
 -- two texts without a line feed are the same before the first one
-same_front : (a b rest more : List ℕ) → AllAre is_within a → AllAre is_within b → a ++ (10 ∷ rest) ≡ b ++ (10 ∷ more) → (a ≡ b) × (rest ≡ more)
+pub same_front : (a b rest more : List ℕ) → AllAre is_within a → AllAre is_within b → a ++ (10 ∷ rest) ≡ b ++ (10 ∷ more) → (a ≡ b) × (rest ≡ more)
 same_front [] [] rest more in_a in_b e = (refl, let same : rest ≡ more = cc in same)
 same_front [] (y ∷ b) rest more in_a in_b e = let same : 10 ≡ y = cc in absurd (let wrong : is_within 10 ≡ true = subst (λ (n : ℕ). is_within n ≡ true) (sym same) in_b.0 in cc)
 same_front (x ∷ a) [] rest more in_a in_b e = let same : x ≡ 10 = cc in absurd (let wrong : is_within 10 ≡ true = subst (λ (n : ℕ). is_within n ≡ true) same in_a.0 in cc)
@@ -91,7 +91,7 @@ same_front (x ∷ a) (y ∷ b) rest more in_a in_b e =
 -- ---- the first line of a text
 
 -- the line with its end, before what follows, as a line and what follows
-fed : (line rest : List ℕ) → (line ++ codes "\n") ++ rest ≡ line ++ (10 ∷ rest)
+pub fed : (line rest : List ℕ) → (line ++ codes "\n") ++ rest ≡ line ++ (10 ∷ rest)
 fed line rest = append_assoc line (codes "\n") rest
 
 pub begins_told : (source : Module) (line rest : List ℕ) (e : Name × Obj) → TellsOf source line e → line ++ (10 ∷ rest) ≡ object_line source e ++ rest

@@ -3,3 +3,15 @@ pub mod ValuesRead
 pub mod LinesRead
 pub mod Cuts
 pub mod FeedFree
+pub mod Roots
+pub mod Placed
+pub mod Heads
+pub mod Rising
+pub mod Listed
+pub mod Starting
+pub mod Spelled
+pub mod Reread
+pub mod Once
+pub mod Filling
+pub mod Small
+pub mod Whole

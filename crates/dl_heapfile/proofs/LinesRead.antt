@@ -1,5 +1,5 @@
 -- Lines that tell of objects: what is read is what is written, and what is written is read.
-use Rattle.std.proofs.Common.{◌≡◌, ◌≢◌, ℕ, zero, suc, ◌+◌, ◌<◌, Bool, true, false, List, [], ◌∷◌, ◌++◌, length, take, drop, refl, sym, ap, ap₂, subst, ◌∙◌, Option, Some, None, arith, append_assoc, ◌⊎◌, inl, inr}
+use Rattle.std.proofs.Common.{◌≡◌, ◌≢◌, ℕ, zero, suc, ◌+◌, Bool, true, false, List, [], ◌∷◌, ◌++◌, drop, refl, sym, ap, ap₂, subst, ◌∙◌, Option, Some, None, arith, append_assoc}
 use Rattle.std.specs.Prelude.{◌==◌, codes, slice_get, option_and_then, if◌then◌else◌}
 use Rattle.std.specs.Option.{option_map}
 use Rattle.std.specs.List.{prefix_len, take_while}
@@ -13,14 +13,14 @@ use Rattle.dl_ir.specs.declared.modules.Module.{Module}
 use Rattle.dl_ir.specs.declared.names.Name.{Name}
 use Rattle.dl_ir.specs.declared.names.Value.{Value}
 use Rattle.dl_ir.specs.declared.objects.Obj.{Obj}
-use Rattle.dl_history.specs.Report.{name_text, value_text, seal_text, object_text, object_line}
-use Rattle.dl_text.specs.Bytes.{is_digit, is_word, AllAre}
+use Rattle.dl_history.specs.Report.{name_text, value_text, seal_text, object_text}
+use Rattle.dl_text.specs.Bytes.{is_word, AllAre}
 use Rattle.dl_text.specs.Text.{Ends}
 use Rattle.dl_heapfile.specs.Lines.{AllMayHold, HasForm, TellsOf}
 use Rattle.dl_heapfile.specs.Names.{HasNames}
 use Rattle.dl_heapfile.specs.Reading.{behind, name, fields, seal, seal_behind, kind_named, object_ended, object_of, object, entry_behind, entry}
 use Rattle.dl_heapfile.proofs.NumbersRead.{assoc4, then_some, map_some, front_taken, front_dropped}
-use Rattle.dl_heapfile.proofs.ValuesRead.{behind_read, behind_written, name_read, name_written, fields_text, fields_read, fields_end, fields_written}
+use Rattle.dl_heapfile.proofs.ValuesRead.{behind_read, name_read, name_written, fields_text, fields_read, fields_end, fields_written}
 
 -- ---- the mark of a sealed object
 

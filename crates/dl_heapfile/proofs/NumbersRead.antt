@@ -1,12 +1,12 @@
 -- Plain decimal numbers: what is read is what is written, and what is written is read.
-use Rattle.std.proofs.Common.{◌≡◌, ◌≢◌, ℕ, ℤ, zero, suc, ◌+◌, ◌-◌, ◌*◌, ◌<◌, ◌≤◌, Bool, true, false, not, cond, ◌&&◌, List, [], ◌∷◌, ◌++◌, length, take, drop, get_or, refl, sym, ap, ap₂, subst, ◌∙◌, Option, Some, None, arith, pos, negsuc, append_assoc}
-use Rattle.std.specs.Prelude.{◌==◌, ◌^◌, nat_le, decimal, fold, neg_ℤ, option_and_then, if◌then◌else◌}
+use Rattle.std.proofs.Common.{◌≡◌, ℕ, ℤ, zero, suc, ◌+◌, ◌-◌, ◌*◌, ◌<◌, ◌≤◌, Bool, true, false, not, cond, ◌&&◌, List, [], ◌∷◌, ◌++◌, length, take, drop, get_or, refl, sym, ap, ap₂, subst, ◌∙◌, Option, Some, None, arith, pos, negsuc, append_assoc}
+use Rattle.std.specs.Prelude.{◌==◌, ◌^◌, nat_le, decimal, fold, option_and_then, if◌then◌else◌}
 use Rattle.std.specs.Fmt.{signed_decimal}
 use Rattle.std.specs.Option.{option_map}
 use Rattle.std.specs.List.{prefix_len, take_while}
 use Rattle.std.proofs.lemmas.Bool.Decides.{nat_tests}
 use Rattle.std.proofs.lemmas.Fmt.{decimal-digits_value, digits_decimal, digits_value-decimal, first_decimal, decimal_nonempty}
-use Rattle.std.proofs.lemmas.Str.Parse.{IsDigitsTest, FoldsDigits, IsNumeralModel, numerals_by_fold}
+use Rattle.std.proofs.lemmas.Str.Parse.{IsNumeralModel, numerals_by_fold}
 use Rattle.std.proofs.lemmas.List.{take-append-drop}
 use Rattle.dl_text.specs.Bytes.{is_digit, next_value, value, AllAre}
 use Rattle.dl_text.specs.Text.{Ends}
@@ -63,12 +63,12 @@ numerals = numerals_by_fold (AllAre is_digit) (record {
   more = λ c cs range all. (grind (arith, nat_tests, range.0, range.1), all);
 }) (fold next_value) (record { empty = λ n. refl; more = λ n c cs range. ap (λ m. fold next_value m cs) {x = 10 * n + (c - 48)} {y = n * 10 + (c - 48)} (omega arith) })
 
-plain_lead : (ds : List ℕ) → is_plain ds ≡ true → (0 < length ds) × (get_or ds 0 0 ≡ 48 → length ds ≡ 1)
+pub plain_lead : (ds : List ℕ) → is_plain ds ≡ true → (0 < length ds) × (get_or ds 0 0 ≡ 48 → length ds ≡ 1)
 plain_lead [] is = cc
 plain_lead (d ∷ []) is = (omega arith, λ zero_first. refl)
 plain_lead (d ∷ e ∷ ds) is = (omega arith, λ zero_first. absurd (let wrong : not (48 == 48) ≡ true = subst (λ (n : ℕ). not (n == 48) ≡ true) zero_first is in cc))
 
-decimal_plain : (n : ℕ) → n < 2 ^ 64 → is_plain (decimal n) ≡ true
+pub decimal_plain : (n : ℕ) → n < 2 ^ 64 → is_plain (decimal n) ≡ true
 decimal_plain zero small = ap is_plain (decimal-digits_value numerals (48 ∷ []) (refl, tt) (omega arith) (λ zero_first. refl) (omega arith))
 decimal_plain (suc n) small = by (decimal (suc n)) (first_decimal (suc n) (omega arith) small)
   where

@@ -1,5 +1,5 @@
 -- Names, values and fields: what is read is what is written, and what is written is read.
-use Rattle.std.proofs.Common.{◌≡◌, ℕ, ℤ, zero, suc, ◌+◌, ◌-◌, ◌<◌, ◌≤◌, Bool, true, false, cond, List, [], ◌∷◌, ◌++◌, length, refl, sym, ap, ap₂, subst, ◌∙◌, Option, Some, None, arith, append_assoc}
+use Rattle.std.proofs.Common.{◌≡◌, ℕ, ℤ, ◌-◌, ◌<◌, Bool, true, false, List, [], ◌∷◌, ◌++◌, length, refl, sym, ap, ap₂, subst, ◌∙◌, Option, Some, None, arith, append_assoc}
 use Rattle.std.specs.Prelude.{◌==◌, ◌^◌, codes, decimal, option_and_then, if◌then◌else◌}
 use Rattle.std.specs.Option.{option_map}
 use Rattle.std.specs.List.{zip, flat_map}
@@ -14,7 +14,7 @@ use Rattle.dl_ir.specs.declared.names.Value.TheVariants as values
 use Rattle.dl_history.specs.Report.{name_text, value_text, field_text}
 use Rattle.dl_text.specs.Bytes.{is_digit, AllAre}
 use Rattle.dl_text.specs.Text.{Ends}
-use Rattle.dl_heapfile.specs.Lines.{IsSmall, IsSmallName, MayHold, AllMayHold}
+use Rattle.dl_heapfile.specs.Lines.{IsSmallName, MayHold, AllMayHold}
 use Rattle.dl_heapfile.specs.Reading.{behind, number, integer, name_behind, name, reference, typed, field, with_value, fields}
 use Rattle.dl_heapfile.proofs.NumbersRead.{assoc3, assoc4, then_some, map_some, number_read, number_written, integer_read, integer_written, decimal_digits}
 

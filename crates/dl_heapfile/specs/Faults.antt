@@ -53,6 +53,15 @@ pub record FailsFirst (P : Name × Obj → Type 0) (entries : List (Name × Obj)
   pub fails : P entry → ⊥
   pub before : (earlier : ℕ) (other : Name × Obj) → earlier < at → slice_get entries earlier ≡ Some other → P other
 
+-- what becomes of the objects of a heap part, with so many places: their first fault, each answered where none before it stands, or their heap
+pub data Builds (source : Module) (places line : ℕ) (entries : List (Name × Obj)) : Result Objects HeapFault → Type 0 where
+  dangling : (at : ℕ) → FailsFirst (RefersWell source (heap_of entries)) entries at → Builds source places line entries (Err (Dangling (line + 1 + at)))
+  shape : (at : ℕ) → Every (RefersWell source (heap_of entries)) entries → FailsFirst (HasOneField (heap_of entries)) entries at → Builds source places line entries (Err (Shape (line + 1 + at)))
+  no_places : Every (RefersWell source (heap_of entries)) entries → Every (HasOneField (heap_of entries)) entries → places < hidden_count (heap_of entries)
+      → Builds source places line entries (Err (NoPlaces line))
+  is_heap : Every (RefersWell source (heap_of entries)) entries → Every (HasOneField (heap_of entries)) entries → hidden_count (heap_of entries) ≤ places
+      → Builds source places line entries (Ok (heap_of entries))
+
 -- what a heap file of a module is, with so many places: each fault is answered where none before it stands
 pub data Reads (source : Module) (places : ℕ) (bytes : List ℕ) : Result Objects HeapFault → Type 0 where
   no_heap : (line : ℕ) → HasNoHeap bytes line → Reads source places bytes (Err (NoHeap line))
@@ -61,13 +70,5 @@ pub data Reads (source : Module) (places : ℕ) (bytes : List ℕ) : Result Obje
       → Tells source [] (line + 1) rest (Err fault) → Reads source places bytes (Err fault)
   count : {line : ℕ} {objects hidden : List ℕ} {entries : List (Name × Obj)} → IsOfForm source bytes line objects hidden entries
       → (IsCounted objects hidden entries → ⊥) → Reads source places bytes (Err (Count line))
-  dangling : {line : ℕ} {objects hidden : List ℕ} {entries : List (Name × Obj)} (at : ℕ) → IsOfForm source bytes line objects hidden entries → IsCounted objects hidden entries
-      → FailsFirst (RefersWell source (heap_of entries)) entries at → Reads source places bytes (Err (Dangling (line + 1 + at)))
-  shape : {line : ℕ} {objects hidden : List ℕ} {entries : List (Name × Obj)} (at : ℕ) → IsOfForm source bytes line objects hidden entries → IsCounted objects hidden entries
-      → Every (RefersWell source (heap_of entries)) entries → FailsFirst (HasOneField (heap_of entries)) entries at → Reads source places bytes (Err (Shape (line + 1 + at)))
-  no_places : {line : ℕ} {objects hidden : List ℕ} {entries : List (Name × Obj)} → IsOfForm source bytes line objects hidden entries → IsCounted objects hidden entries
-      → Every (RefersWell source (heap_of entries)) entries → Every (HasOneField (heap_of entries)) entries → places < hidden_count (heap_of entries)
-      → Reads source places bytes (Err (NoPlaces line))
-  is_heap : {line : ℕ} {objects hidden : List ℕ} {entries : List (Name × Obj)} → IsOfForm source bytes line objects hidden entries → IsCounted objects hidden entries
-      → Every (RefersWell source (heap_of entries)) entries → Every (HasOneField (heap_of entries)) entries → hidden_count (heap_of entries) ≤ places
-      → Reads source places bytes (Ok (heap_of entries))
+  counted : {line : ℕ} {objects hidden : List ℕ} {entries : List (Name × Obj)} {outcome : Result Objects HeapFault} → IsOfForm source bytes line objects hidden entries
+      → IsCounted objects hidden entries → Builds source places line entries outcome → Reads source places bytes outcome

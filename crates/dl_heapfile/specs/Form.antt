@@ -1,5 +1,5 @@
 -- The form of the heap part of a report, and what a text that has it tells.
-use Rattle.std.specs.Prelude.{◌≡◌, ◌≢◌, ◌+◌, ◌<◌, ◌≤◌, ◌==◌, ◌&&◌, ℕ, Bool, true, false, not, Result, Ok, Err, List, [], ◌∷◌, ◌++◌, length, drop, codes, All, if◌then◌else◌}
+use Rattle.std.specs.Prelude.{◌≡◌, ◌≢◌, ◌+◌, ◌<◌, ◌≤◌, ◌&&◌, ℕ, Bool, false, not, Some, slice_get, Result, Ok, Err, List, [], ◌∷◌, ◌++◌, length, take, drop, codes, All}
 use Rattle.std.specs.List.{prefix_len, take_while}
 use Rattle.std.specs.declared.cmp.Ordering.TheVariants.{Less}
 use Rattle.dl_ir.specs.declared.modules.Module.{Module}
@@ -10,7 +10,7 @@ use Rattle.dl_history.specs.Report.{heap_part}
 use Rattle.dl_text.specs.Bytes.{is_blank, is_digit, AllAre}
 use Rattle.dl_heapfile.specs.declared.fault.HeapFault.{HeapFault}
 use Rattle.dl_heapfile.specs.declared.fault.HeapFault.TheVariants.{BadLine}
-use Rattle.dl_heapfile.specs.Lines.{BeginsWith, is_within}
+use Rattle.dl_heapfile.specs.Lines.{IsSmallName, HasForm, BeginsWith, is_within}
 
 -- ---- where the heap part begins
 
@@ -63,6 +63,17 @@ pub data MayFollow (source : Module) (before : List (Name × Obj)) (entry : Name
   next_root : length before < root_count source → entry.0 ≡ root (length before) → IsRootOf source entry.1.kind entry.0 → entry.1.sealed ≡ false → MayFollow source before entry
   next_hidden : root_count source ≤ length before → All (λ (earlier : Name × Obj). name_cmp earlier.0 entry.0 ≡ Less) before → IsNodeKind source entry.1.kind
       → 1 ≤ entry.0.ticket → entry.0.ticket ≤ 4611686018427387904 → 1 ≤ entry.0.index → entry.0.index ≤ 64 → MayFollow source before entry
+
+-- each object stands where it may behind those before it, and has a name and a form as a line tells them
+pub record AreListed (source : Module) (entries : List (Name × Obj)) : Type 0 where
+  pub each : (at : ℕ) (entry : Name × Obj) → slice_get entries at ≡ Some entry → MayFollow source (take at entries) entry
+  pub names : (at : ℕ) (entry : Name × Obj) → slice_get entries at ≡ Some entry → IsSmallName entry.0
+  pub forms : (at : ℕ) (entry : Name × Obj) → slice_get entries at ≡ Some entry → HasForm source entry.1
+
+-- the objects of a whole heap part: they are listed, and all roots are among them
+pub record AreInPlace (source : Module) (entries : List (Name × Obj)) : Type 0 where
+  pub listed : AreListed source entries
+  pub all_roots : root_count source ≤ length entries
 
 -- a line of an object that may stand here comes next
 pub record IsNext (source : Module) (before : List (Name × Obj)) (text : List ℕ) (entry : Name × Obj) (rest : List ℕ) : Type 0 where

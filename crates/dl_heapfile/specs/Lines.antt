@@ -1,5 +1,5 @@
 -- Which objects a line of the heap part may tell of.
-use Rattle.std.specs.Prelude.{◌≡◌, ◌<◌, ◌≤◌, ◌^◌, ◌++◌, ◌∷◌, [], ◌==◌, not, Bool, ℕ, ℤ, pos, negsuc, Some, None, List, length, slice_get, codes}
+use Rattle.std.specs.Prelude.{◌≡◌, ◌<◌, ◌^◌, ◌++◌, ◌∷◌, [], ◌==◌, not, Bool, ℕ, ℤ, pos, negsuc, Some, None, List, slice_get, codes}
 use Rattle.dl_ir.specs.declared.modules.FieldDecl.{FieldDecl}
 use Rattle.dl_ir.specs.declared.modules.KindDecl.{KindDecl}
 use Rattle.dl_ir.specs.declared.modules.Module.{Module}

@@ -108,3 +108,19 @@ entry_behind source found = option_map (λ (o : Obj). (found.0, o)) (option_and_
 -- what a line, without its end, tells
 abbrev pub entry : Module → List ℕ → Option (Name × Obj)
 entry source line = option_and_then (entry_behind source) (name line)
+
+-- ---- the heap line
+
+-- the digits of a number of any length, with no 0 before others, and what is behind them
+abbrev pub plain : List ℕ → Option (List ℕ × List ℕ)
+plain text = if is_plain (take_while is_digit text) then Some (take_while is_digit text, drop (prefix_len is_digit text) text) else None
+
+abbrev pub head_ended : List ℕ → List ℕ × List ℕ → Option (List ℕ × List ℕ × List ℕ)
+head_ended objects hidden = option_map (λ (rest : List ℕ). (objects, hidden.0, rest)) (behind (codes "\n") hidden.1)
+
+abbrev pub head_kept : List ℕ × List ℕ → Option (List ℕ × List ℕ × List ℕ)
+head_kept objects = option_and_then (head_ended objects.0) (option_and_then plain (behind (codes " kept ") objects.1))
+
+-- the digits of the two numbers of a heap line, and what is behind it
+abbrev pub head : List ℕ → Option (List ℕ × List ℕ × List ℕ)
+head text = option_and_then head_kept (option_and_then plain (behind (codes "heap ") text))

@@ -1,6 +1,6 @@
 //! Plain decimal numbers at the front of a text.
 
-ghost use Rattle.std.specs.Prelude.{◌≡◌, ◌≤◌, ◌<◌, ◌^◌, ◌-◌, IsTrue, ◌↔◌, length, if◌then◌else◌, nat_le, option_and_then, MatchOption, Some, None, pos, neg_ℤ, drop};
+ghost use Rattle.std.specs.Prelude.{◌≡◌, ◌≤◌, ◌<◌, ◌^◌, ◌-◌, IsTrue, ◌↔◌, length, if◌then◌else◌, nat_le, decimal, option_and_then, MatchOption, Some, None, pos, neg_ℤ, drop};
 ghost use Rattle.std.specs.List.{prefix_len, take_while};
 ghost use Rattle.dl_text.specs.Bytes.{is_digit, is_word, value, AllAre};
 ghost use Rattle.dl_heapfile.specs.Reading as spec;
@@ -97,4 +97,29 @@ pub fn integer(text: &[u8]) -> Option<(i64, &[u8])>
             Some((n as i64, rest))
         }
     }
+}
+
+/// The digits of a number of any length, with no 0 before others, and what is behind them.
+pub fn plain(text: &[u8]) -> Option<(&[u8], &[u8])>
+    ensures { MatchOption result (spec.plain text.now ≡ None) (λ found. spec.plain text.now ≡ Some (found.0.now, found.1.now)) }
+{
+    let (digits, rest) = text.split_at(digits_len(text));
+    if is_plain(digits) {
+        Some((digits, rest))
+    } else {
+        None
+    }
+}
+
+/// Whether these bytes are the digits of a number.
+pub fn says(digits: &[u8], count: u64) -> bool
+    ensures { IsTrue result ↔ (digits.now ≡ decimal count) }
+{
+    let Some((n, rest)) = number(digits, 18446744073709551615) else {
+        return false;
+    };
+    if n != count {
+        return false;
+    }
+    rest.is_empty()
 }

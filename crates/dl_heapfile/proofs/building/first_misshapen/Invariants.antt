@@ -1,0 +1,10 @@
+use Rattle.std.proofs.Common.{◌≡◌, ◌<◌, ℕ, Some}
+use Rattle.std.specs.List.{slice_get}
+use Rattle.dl_ir.specs.declared.names.Name.{Name}
+use Rattle.dl_ir.specs.declared.objects.Obj.{Obj}
+use Rattle.dl_heapfile.specs.Faults.{HasOneField}
+use Rattle.dl_heapfile.proofs.building.first_misshapen.Given as goal
+
+-- the objects so far pass
+abbrev pub invariant-loop-at : goal.invariant-loop-at
+invariant-loop-at l = (at : ℕ) (e : Name × Obj) → at < l.at → slice_get l.entries at ≡ Some e → HasOneField l.heap.objects e
