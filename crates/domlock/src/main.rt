@@ -7,6 +7,8 @@ mod emit_tests;
 #[cfg(test)]
 mod rows;
 #[cfg(test)]
+mod run_tests;
+#[cfg(test)]
 mod tests;
 
 use dl_command::{Words, WordsFault, domlock, exit_code, status_line};

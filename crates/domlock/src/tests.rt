@@ -2,15 +2,12 @@
 
 ghost use Rattle.std.specs.Prelude.{◌≤◌};
 
-use dl_command::{OpsWhy, Outcome, Status, Words, domlock, domlock_still, exit_code, status_line};
+use dl_command::{OpsWhy, Outcome, Status, Words, domlock_still, exit_code, status_line};
 use dl_io::{MemFiles, MemSink};
-use dl_machine::Open;
 use dl_modules::{COUNTER, SKEW};
 use dl_text::Out;
 use std::alloc::Global;
-use std::sync::Wait;
 use std::test::Fail;
-use std::thread::Threads;
 
 const TWICE: &[u8] =
     b"domlock report 1\nanswers 2\n1.1 ok 5\n1.2 ok 12\nhistory 2\n1 1.1 add 0 5\n2 1.2 add 0 7\npool 0\nheap 2 kept 0\n0.0 CELL val=12\n0.1 CELL val=0\nend\n";
@@ -508,72 +505,5 @@ fn a_sink_that_fails_takes_a_part_of_what_is_shown(rt: HostRuntime) -> Result<()
         assert_eq!(rt; sink.bytes(), want);
         assert_eq!(rt; outcome.history.entries().len(), 0);
     }
-    Ok(())
-}
-
-// What `run` answers and writes of a skew heap's operations, of which the first file lies at `a` and the second one at `b`.
-fn run_call<R: Threads + Wait + Sync>(
-    rt: &R,
-    alloc: Global,
-    line: &str,
-    a: &[u8],
-    b: &[u8],
-    fails: &[u64],
-    sink: &mut MemSink,
-) -> Result<Outcome, Fail> {
-    let words = words_of(alloc, line)?;
-    let mut files = MemFiles::new(alloc, 100_000, fails)?;
-    files.add("m", SKEW)?;
-    files.add("a", a)?;
-    files.add("b", b)?;
-    Ok(domlock(rt, alloc, &words, &mut files, sink, &Open))
-}
-
-#[test]
-fn run_of_one_file_writes_what_serial_writes(rt: HostRuntime) -> Result<(), Fail> {
-    let ops = b"insert 0 5\ninsert 0 3\npop 0\npop 0\npop 0\n";
-    let mut one = MemSink::new(rt.alloc(), 1000, &[], 1000)?;
-    let mut other = MemSink::new(rt.alloc(), 1000, &[], 1000)?;
-    let serial = call(rt.alloc(), "serial m o", SKEW, ops, &mut one)?;
-    let run = run_call(&rt, rt.alloc(), "run m a", ops, b"", &[], &mut other)?;
-    assert_eq!(rt; serial.status, Status::Done);
-    assert_eq!(rt; run.status, Status::Done);
-    assert_eq!(rt; one.bytes(), other.bytes());
-    Ok(())
-}
-
-#[test]
-fn a_read_fault_in_the_second_file_writes_nothing(rt: HostRuntime) -> Result<(), Fail> {
-    // Attaching, a piece and the end of the files 0 and 1, and attaching file 2.
-    let mut sink = MemSink::new(rt.alloc(), 1000, &[], 1000)?;
-    let outcome = run_call(
-        &rt,
-        rt.alloc(),
-        "run m a b",
-        b"insert 0 5\n",
-        b"insert 1 6\n",
-        &[8],
-        &mut sink,
-    )?;
-    assert_eq!(rt; outcome.status, Status::ReadFault { file: 2 });
-    assert_eq!(rt; sink.bytes().len(), 0);
-    Ok(())
-}
-
-#[test]
-fn one_place_refuses_one_of_two_callers(rt: HostRuntime) -> Result<(), Fail> {
-    let mut sink = MemSink::new(rt.alloc(), 1000, &[], 1000)?;
-    let outcome = run_call(
-        &rt,
-        rt.alloc(),
-        "run m a b --places 1",
-        b"insert 0 5\n",
-        b"insert 1 6\n",
-        &[],
-        &mut sink,
-    )?;
-    assert_eq!(rt; outcome.status, Status::Done);
-    assert_eq!(rt; outcome.history.entries().len(), 1);
-    assert_eq!(rt; outcome.refusals.len(), 1);
     Ok(())
 }
