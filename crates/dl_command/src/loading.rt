@@ -202,10 +202,10 @@ fn read_wanted<F: Files>(
 ) -> Result<Content, Status>
     requires few_ops { length source.now.ops ≤ 64 }
     requires number { 0 < file.number }
-    ensures ok { IfOk result (IsFile source.now (F.source files.old) (wanted_held file)) }
+    ensures ok { IfOk result (IsFile source.now (F.source files.old) (wanted_held file.entry)) }
     ensures calls { IfOk result (IsFine source.now) }
     ensures within { OnOk result (IsWithin (F.source files.new)) }
-    ensures cause { IfErr result (NoFile source.now (wanted_held file) (F.source files.old) (F.source files.new)) }
+    ensures cause { IfErr result (NoFile source.now (wanted_held file.entry) (F.source files.old) (F.source files.new)) }
     ensures after { AfterReading (F.source files.old) (F.source files.new) }
 {
     let text = match read_file(alloc, files, file.number, file.path) {
@@ -247,12 +247,10 @@ impl Input {
         ensures behind { OnOk result (behind_of self.new ≡ with_content (behind_of self.old) content) }
     {
         match content {
-            Content::Schedule(schedule) => {
-                self.schedule = schedule;
-                Ok(())
-            }
-            Content::Calls(calls) => self.all.push(calls),
+            Content::Schedule(schedule) => self.schedule = schedule,
+            Content::Calls(calls) => self.all.push(calls)?,
         }
+        Ok(())
     }
 }
 

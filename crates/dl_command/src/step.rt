@@ -1,6 +1,6 @@
 //! Runs of the calls of a command by a schedule.
 
-ghost use Rattle.std.specs.Prelude.{◌≡◌, ◌≤◌, ◌++◌, ℕ, false, All, IfOk, length};
+ghost use Rattle.std.specs.Prelude.{◌≡◌, ◌≤◌, ◌++◌, ℕ, false, All, IfOk, OnOk, OnErr, length};
 ghost use Rattle.dl_io.specs.Taken.{Taken};
 ghost use Rattle.dl_ir.specs.CallForms.{AreCallsOf};
 ghost use Rattle.dl_ir.specs.Checked.{IsChecked};
@@ -9,7 +9,7 @@ ghost use Rattle.dl_ir.specs.Heap.{start_objects};
 ghost use Rattle.dl_shape.specs.Pool.{moves_of, in_rising_versions};
 ghost use Rattle.dl_shape.specs.Replay.{replayed};
 ghost use Rattle.dl_history.specs.Histories.{joined, AreByCaller};
-ghost use Rattle.dl_text.specs.Writing.{Passes, nothing};
+ghost use Rattle.dl_text.specs.Writing.{Breaks, Passes, nothing};
 ghost use Rattle.dl_schedule.specs.Rules.{IsGiveOf};
 ghost use Rattle.dl_trace.specs.Runs.{Run as ScheduledRun};
 ghost use Rattle.dl_command.specs.Promise.{Finishes, IsScheduled, Prints, report_of};
@@ -26,7 +26,7 @@ use dl_instr::{codes_of_modules, instrument};
 use dl_io::{Failed, Sink};
 use dl_ir::Refusal;
 use dl_text::Out;
-use dl_trace::{run_schedule, scheduled_runs_are_over};
+use dl_trace::{Counts, run_schedule, scheduled_runs_are_over};
 use sqlite_items::Items;
 use std::alloc::{AllocError, Global};
 
@@ -95,19 +95,28 @@ pub fn close_run(input: &Input, core: Core, room: Room) -> Run
     }
 }
 
-// Writes the report of a run behind what was put before it.
-fn write_behind<K: Sink>(input: &Input, run: &Run, out: &mut Out, sink: &mut K) -> Status
-    requires works { out.old.failed ≡ false }
+// Writes the report of a run behind its trace, where that could be put.
+fn write_behind<K: Sink>(
+    traced: Result<Counts, Failed>,
+    input: &Input,
+    run: &Run,
+    out: &mut Out,
+    sink: &mut K,
+) -> Status
+    requires works { OnOk traced (out.old.failed ≡ false) }
     requires few { length input.now.all.items ≤ 64 }
     requires calls { All (AreCallsOf input.now.source) input.now.all.items }
     requires covers { Covers input.now.all.items run.now.history.entries run.now.refusals }
     requires heap { run.now.closed.heap.objects ≡ replayed input.now.source input.now.all.items (start_objects input.now.source) run.now.history.entries }
     requires moves { run.now.history.moves ≡ in_rising_versions (moves_of input.now.source input.now.all.items run.now.history.entries) }
     requires refusals { (joined run.now.closed.refusals ≡ run.now.refusals) × AreByCaller run.now.closed.refusals }
-    ensures { (start : Taken) (text : Text) → Passes start nothing text (K.taken sink.old) out.old → Prints result (text ++ report_of input.now.source (start_objects input.now.source) input.now.all.items run.now.history.entries run.now.refusals) start (K.taken sink.new) }
+    ensures { (start : Taken) (text : Text) → OnOk traced (Passes start nothing text (K.taken sink.old) out.old) → OnErr traced (Breaks start nothing text (K.taken sink.old)) → Prints result (text ++ report_of input.now.source (start_objects input.now.source) input.now.all.items run.now.history.entries run.now.refusals) start (K.taken sink.new) }
 {
-    match put_run(input, run, out, sink) {
-        Ok(()) => Status::Done,
+    match traced {
+        Ok(_) => match put_run(input, run, out, sink) {
+            Ok(()) => Status::Done,
+            Err(Failed) => Status::WriteFault,
+        },
         Err(Failed) => Status::WriteFault,
     }
 }
@@ -125,9 +134,6 @@ pub fn run_steps<K: Sink>(input: &Input, ready: Ready, sink: &mut K) -> (Status,
     let files = input.all.as_slice();
     let traced = run_schedule(&mut core, files, &input.schedule, &mut out, sink);
     let run = close_run(input, core, room);
-    let status = match traced {
-        Ok(_) => write_behind(input, &run, &mut out, sink),
-        Err(Failed) => Status::WriteFault,
-    };
+    let status = write_behind(traced, input, &run, &mut out, sink);
     (status, run)
 }
