@@ -1,5 +1,5 @@
 -- Files that are read one after another.
-use Rattle.std.proofs.Common.{◌≡◌, ℕ, ◌+◌, ◌<◌, ◌≤◌, List, [], ◌∷◌, ◌++◌, Option, Some, Ok, take, length, refl, sym, ◌∙◌, ap, subst, arith, length-append}
+use Rattle.std.proofs.Common.{◌≡◌, ℕ, ◌+◌, ◌<◌, ◌≤◌, List, [], ◌∷◌, ◌++◌, Option, Some, Ok, take, get_or, map, length, refl, sym, ◌∙◌, ap, subst, arith, length-append}
 use Rattle.std.specs.Prelude.{All, slice_get, IfSome, Contains}
 use Rattle.std.proofs.Math.Nat.{le_trans}
 use Rattle.std.proofs.lemmas.List.Elements.{All-nil, All-push}
@@ -14,14 +14,16 @@ use Rattle.dl_command.specs.declared.loading.Content.{Content}
 use Rattle.dl_command.specs.declared.loading.Content.TheVariants as contents
 use Rattle.dl_command.specs.declared.status.Status.{Status}
 use Rattle.dl_command.specs.declared.status.Status.TheVariants as statuses
+use Rattle.dl_command.specs.declared.wanted.WantedFile.{WantedFile as Held}
 use Rattle.dl_command.specs.declared.words.Verb.TheVariants as verbs
 use Rattle.dl_command.specs.Causes.{NoFile, Refuses}
 use Rattle.dl_command.specs.Loading.{IsFine, StopsAt}
 use Rattle.dl_command.specs.Reading.{AfterReading, IsWithin, ReadCause, Fails, IsTooLong}
 use Rattle.dl_command.specs.Texts.{IsFile, AreFiles, IsModuleFile, Behind, nothing_behind, with_content}
-use Rattle.dl_command.specs.Wanted.{Wanted, operations_from, wanted, wanted_by}
+use Rattle.dl_command.specs.Wanted.{Wanted, operations_from, wanted, wanted_by, wanted_held}
 use Rattle.dl_command.specs.Words.{Text, Task}
 use Rattle.dl_text.proofs.WritingLemmas.{rose_later}
+use Rattle.dl_command.proofs.WantedLemmas.{seen_to}
 
 -- what holds while files are read one after another
 pub record Loaded (source : Module) (start now : Source) (wanted : List Wanted) (behind : Behind) : Type 0 where
@@ -144,3 +146,15 @@ pub step_counts : (source : Module) (files : Source) (rest : List Text) (behind 
     → (count : ℕ) × (count + 1 ≡ length rest) × AreBehind count behind
 step_counts source files [] behind more are = absurd (omega (arith, more))
 step_counts source files (path ∷ paths) behind more are = (length paths, omega arith, step_behind source files path paths behind are)
+
+-- one more file was read
+pub loaded_more : {source : Module} {start now new : Source} (files : List Held) (i : ℕ) (d : Held) (behind : Behind) (content : Content) → i < length files
+    → Loaded source start now (take i (map wanted_held files)) behind → AfterReading now new → IsWithin new → IsFile source now (wanted_held (get_or files i d)) content → IsFine source content
+    → Loaded source start new (take (i + 1) (map wanted_held files)) (with_content behind content)
+loaded_more {source = source} {start = start} {new = new} files i d behind content inside loaded after within is fine =
+    subst (λ (wanted : List Wanted). Loaded source start new wanted (with_content behind content)) (sym (seen_to wanted_held files i d inside)) record {
+      after = after_both loaded.after after;
+      within = within;
+      files = files_push source start (take i (map wanted_held files)) nothing_behind behind (wanted_held (get_or files i d)) content loaded.files (file_before loaded.after.same is);
+      calls = calls_with source behind content loaded.calls fine;
+    }

@@ -161,6 +161,6 @@ cut_before s t text more breaks = record {
 }
 
 -- of two things that hold at an error, the second
-pub second_err : {T E A B : Type 0} (r : Result T E) → OnErr r (A × B) → OnErr r B
-second_err (Ok value) both = tt
-second_err (Err fault) both = both.1
+pub second_err : {T E : Type 0} (A B : Type 0) (r : Result T E) → OnErr r (A × B) → OnErr r B
+second_err A B (Ok value) both = tt
+second_err A B (Err fault) both = both.1

@@ -1,5 +1,5 @@
 -- What a scheduled run has at its start and at its end.
-use Rattle.std.specs.Prelude.{◌≡◌, ◌≤◌, ℕ, [], length, sum_by, vec_capacity}
+use Rattle.std.specs.Prelude.{◌≡◌, ◌≤◌, ℕ, [], length, sum_by, vec_capacity, vec_len}
 use Rattle.dl_ir.specs.Heap.{start_objects}
 use Rattle.dl_core.specs.Machines.{Machine, opened, plan_at, with_state}
 use Rattle.dl_core.specs.Plans.{Plan, IsPlan}
@@ -17,6 +17,7 @@ plan_from input places = plan_of input.source (start_objects input.source) input
 pub record IsRoom (input : Input) (room : Room) : Type 0 where
   pub merging : room.merging ≡ sum_by length input.all.items
   pub none : room.refusals.items ≡ []
+  pub empty : vec_len room.refusals ≡ 0
   pub refusals : sum_by length input.all.items ≤ vec_capacity room.refusals
 
 -- the machine is at the start of its run, and there is room for what it leaves

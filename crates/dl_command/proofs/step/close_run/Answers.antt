@@ -1,5 +1,4 @@
-use Rattle.std.proofs.Common.{◌≡◌, ◌∙◌, ◌++◌, ◌≤◌, List, ap, arith, length, sym}
-use Rattle.std.specs.Prelude.{vec_len}
+use Rattle.std.proofs.Common.{◌≡◌, ◌∙◌, ◌++◌, List, ap, arith, sym}
 use Rattle.dl_ir.specs.declared.calls.Call.{Call}
 use Rattle.dl_history.specs.Histories.{joined}
 use Rattle.dl_machine.specs.Files.{RunsFiles}
@@ -67,8 +66,7 @@ gather-requires c =
     let left : RunsFiles (plan_from input places) all closed = left_so input places c.requires.calls c.requires.callers over end c.args.core is closed c.close-closed.ensures.heap c.close-closed.ensures.entries c.close-closed.ensures.refusals c.close-closed.ensures.free in
     let few = refusals_few input.source all places closed left in
     let those : c.as_slice-2.result.now ≡ closed.refusals = c.as_slice-2.ensures in
-    let empty : vec_len c.args.room.refusals ≡ 0 = ap length c.requires.room.none in
-    rw those (omega (arith, few, empty, c.requires.room.refusals))
+    rw those (omega (arith, few, c.requires.room.empty, c.requires.room.refusals))
 
 pub returns-clause-scheduled : goal.returns-clause-scheduled
 returns-clause-scheduled c =

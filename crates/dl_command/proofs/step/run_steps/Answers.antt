@@ -28,7 +28,7 @@ returns g c = λ places is.
     let scheduled = c.close_run-run.ensures.scheduled places has.end ends in
     let run = c.close_run-run.result in
     let passes = rw c.new-out.ensures at has.ok in
-    let breaks = rw c.new-out.ensures at (second_err c.run_schedule-traced.result has.err) in
+    let breaks = rw c.new-out.ensures at (second_err _ _ c.run_schedule-traced.result has.err) in
     Finishes.wrote (has.end.text ++ report_of input.source (start_objects input.source) input.all.items run.history.entries run.refusals)
     (record { end = has.end; scheduled = scheduled; is_text = refl })
     (c.write_behind-status.ensures (g.K.Sink.taken c.args.sink.now) has.end.text passes breaks)
