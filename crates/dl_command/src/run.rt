@@ -140,12 +140,7 @@ fn close(alloc: Global, heap: Heap, served: Served) -> Result<Closed, AllocError
 }
 
 /// Puts the report of a run, and writes all that was put.
-pub fn put_run<K: Sink>(
-    input: &Input,
-    run: &Run,
-    out: &mut Out,
-    sink: &mut K,
-) -> Result<(), Failed>
+pub fn put_run<K: Sink>(input: &Input, run: &Run, out: &mut Out, sink: &mut K) -> Result<(), Failed>
     requires works { out.old.failed ≡ false }
     requires few { length input.now.all.items ≤ 64 }
     requires calls { All (AreCallsOf input.now.source) input.now.all.items }
