@@ -1,5 +1,6 @@
 -- The lemmas of the program.
 mod EndLemmas
+mod WantedLemmas
 mod FileLemmas
 mod LoadingLemmas
 mod ReadingLemmas
@@ -12,5 +13,6 @@ mod WritingEnds
 mod CountLemmas
 mod PlanLemmas
 mod OverLemmas
+mod StepLemmas
 mod PromiseLemmas
 pub mod Sent

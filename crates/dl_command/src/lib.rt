@@ -7,7 +7,9 @@ mod reading;
 mod run;
 mod show;
 mod status;
+mod step;
 mod top;
+mod wanted;
 mod words;
 
 pub use status::{ModuleWhy, OpsWhy, Status, exit_code, status_line};

@@ -16,6 +16,10 @@ pub returns-in-Serial : goal.returns-in-Serial
 returns-in-Serial g c =
     rw (c.in-Ok.ensures.ok ∙ sym (still_is c.args.words.now (task_of c.in-Ok.command) verbs.Serial c.in-Ok.ensures.ok c.in-Serial.is)) c.domlock_still.ensures
 
+pub returns-in-Step : goal.returns-in-Step
+returns-in-Step g c =
+    rw (c.in-Ok.ensures.ok ∙ sym (still_is c.args.words.now (task_of c.in-Ok.command) verbs.Step c.in-Ok.ensures.ok c.in-Step.is)) c.domlock_still-in-Step.ensures
+
 pub returns : goal.returns
 returns g c =
     rw (c.in-Ok.ensures.ok ∙ sym (still_is c.args.words.now (task_of c.in-Ok.command) verbs.Show c.in-Ok.ensures.ok c.in-Show.is)) c.domlock_still-in-Show.ensures
