@@ -12,5 +12,8 @@ mod WritingEnds
 mod CountLemmas
 mod PlanLemmas
 mod OverLemmas
+mod LeftLemmas
 mod PromiseLemmas
+mod NumberLemmas
+mod WorkLemmas
 pub mod Sent

@@ -61,12 +61,14 @@ pub record Reports (source : Module) (heap : Objects) (all : List (List Call)) (
   pub is_report : text ≡ report_of source heap all history.entries refusals
 
 -- what a command writes of a tree that is a module, and of calls of it: `serial` and `run` the report of a run of them from the
--- start heap, and `show`, which carries out nothing, the canonical text of the tree and the listing of the module's code
+-- start heap, and `show`, which carries out nothing, the canonical text of the tree and the listing of the module's code. `work` reads
+-- no file, and has a promise of its own
 abbrev pub Writes : Verb → Tree → Module → List (List Call) → ℕ → Seen → List Refusal → Text → Type 0
 Writes verbs.Serial tree source all places history refusals text = Reports source (start_objects source) all places history refusals text
 Writes verbs.Run tree source all places history refusals text = Reports source (start_objects source) all places history refusals text
 Writes verbs.Show tree source all places history refusals text =
     (history ≡ nothing_done) × (refusals ≡ []) × (text ≡ canonical tree ++ listing (code source))
+Writes verbs.Work tree source all places history refusals text = ⊥
 
 -- there is a command, and its files spell a tree that is a module, and its calls; the text is what the command writes of
 -- these, with this history and these refusals

@@ -83,12 +83,14 @@ line_of_matches rows = option_and_then (λ command. option_and_then (λ first. o
 }) (option_and_then number_of (one_of (codes "places") rows))) (first_of (codes "FIRST") rows)) (first_of (codes "COMMAND") rows)
 
 -- the table of commands, a row each: the word COMMAND, what it asks for, and how many words REST has at least and at most;
--- they are `serial MODULE OPERATIONS`, `run MODULE OPERATIONS..` with up to 64 operation files, and `show MODULE`
+-- they are `serial MODULE OPERATIONS`, `run MODULE OPERATIONS..` with up to 64 operation files, `show MODULE`, and
+-- `work SEED COUNT CALLERS`
 abbrev pub table : List (Text × CommandRow)
 table =
     (codes "serial", record { verb = verbs.Serial; fewest = 1; most = 1 })
     ∷ (codes "run", record { verb = verbs.Run; fewest = 1; most = 64 })
     ∷ (codes "show", record { verb = verbs.Show; fewest = 0; most = 0 })
+    ∷ (codes "work", record { verb = verbs.Work; fewest = 2; most = 2 })
     ∷ []
 
 -- the row of a word
@@ -128,6 +130,7 @@ abbrev pub unless_run : Verb → Task → Option Task
 unless_run verbs.Run task = None
 unless_run verbs.Serial task = Some task
 unless_run verbs.Show task = Some task
+unless_run verbs.Work task = Some task
 
 -- the command that the words give, where they are good and are not `run`
 abbrev pub still_task_of_words : List Text → Option Task

@@ -58,8 +58,8 @@ pub fn run_input(alloc: Global, input: &Input, places: u32) -> Result<Run, Alloc
     })
 }
 
-// The number of operations of each file.
-fn sizes_of(alloc: Global, files: &[Calls]) -> Result<Vec<u32>, AllocError>
+/// The number of operations of each file.
+pub fn sizes_of(alloc: Global, files: &[Calls]) -> Result<Vec<u32>, AllocError>
     requires { All (λ calls. length calls ≤ 65536) files.now }
     ensures { IfOk result (λ sizes. sizes.items ≡ map length files.now) }
 {
@@ -70,8 +70,8 @@ fn sizes_of(alloc: Global, files: &[Calls]) -> Result<Vec<u32>, AllocError>
     Ok(sizes)
 }
 
-// The number of all operations.
-fn total_of(files: &[Calls]) -> u32
+/// The number of all operations.
+pub fn total_of(files: &[Calls]) -> u32
     requires few { length files.now ≤ 64 }
     requires short { All (λ calls. length calls ≤ 65536) files.now }
     ensures { result ≡ sum_by length files.now }
