@@ -1,0 +1,5 @@
+mod Heaps
+mod Plain
+mod Reading
+mod Scanning
+mod Typing
