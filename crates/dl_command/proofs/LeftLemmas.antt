@@ -13,7 +13,7 @@ use Rattle.dl_ir.specs.declared.closed.Closed.{Closed}
 use Rattle.dl_ir.specs.declared.modules.Module.{Module}
 use Rattle.dl_ir.specs.CallForms.{AreCallsOf, IsCallOf}
 use Rattle.dl_ir.specs.Cover.{Covers}
-use Rattle.dl_ir.specs.Heap.{Objects, hidden_count}
+use Rattle.dl_ir.specs.Heap.{Objects, hidden_count, start_objects}
 use Rattle.dl_shape.specs.Pool.{HasVersionsOfMovesAlone, IsLawfulPool}
 use Rattle.dl_shape.specs.Replay.{IsLegal, replayed}
 use Rattle.dl_shape.specs.Rising.{in_rising}
@@ -32,7 +32,9 @@ use Rattle.dl_trace.specs.declared.tally.Counts.{Counts}
 use Rattle.dl_trace.specs.Laws.{AreFilesOf, IsRunOut, ScheduledRunsAreOver}
 use Rattle.dl_trace.specs.Ran.{HasRunQuietly, MayRun}
 use Rattle.dl_trace.specs.Runs.{Run, ScheduleRun}
-use Rattle.dl_command.specs.Work.{plan_from_start}
+use Rattle.dl_history.specs.Histories.{Seen}
+use Rattle.dl_command.specs.Promise.{IsRun}
+use Rattle.dl_command.specs.Work.{IsScheduledRun, plan_from_start}
 
 -- lists made of numbers, one after another
 pieces : {Y : Type 0} (g : ℕ → List Y) (ns : List ℕ) → all_of (map g ns) ≡ flat_map g ns
@@ -99,6 +101,15 @@ pub machine_runs : (source : Module) (all : List (List Call)) (machine : Machine
 machine_runs source all machine closed sizes over heap entries refusals free =
     left_runs (plan_from_start source all machine.places) machine.state all closed over heap (rw sizes at entries) (rw sizes at refusals) free
 
+pub machine_history : (source : Module) (all : List (List Call)) (machine : Machine) (closed : Closed) → machine.sizes ≡ map (λ (calls : List Call). length calls) all
+    → IsRunOver (plan_from_start source all machine.places) machine.state all → closed.heap.objects ≡ plain machine.state.world.heap
+    → closed.entries ≡ map (entries_of machine.state) (callers_in machine) → closed.refusals ≡ map (refusals_of machine.state) (callers_in machine)
+    → closed.free ≡ machine.state.pool.free → (history_left closed ≡ history_in (plan_from_start source all machine.places) machine.state) × (all_of closed.refusals ≡ all_refusals (plan_from_start source all machine.places) machine.state)
+machine_history source all machine closed sizes over heap entries refusals free = (
+  left_history (plan_from_start source all machine.places) machine.state all closed over heap (rw sizes at entries) (rw sizes at refusals) free,
+  left_refusals (plan_from_start source all machine.places) machine.state all closed over heap (rw sizes at entries) (rw sizes at refusals) free,
+)
+
 module _ (source : Module) (all : List (List Call)) (places : ℕ) (gives : List Give) (machine : Machine) where
   abbrev plan : Plan
   plan = plan_from_start source all places
@@ -148,3 +159,14 @@ module _ (source : Module) (all : List (List Call)) (places : ℕ) (gives : List
           let who = (at.callers k d within).caller in
           let many = length-map all (λ (calls : List Call). length calls) in
           record { from_one = omega (arith, who.low); to_last = omega (arith, who.high, many) }
+
+  -- what is left of it is that of the scheduled run
+  pub scheduled_is : (after : Machine) (end : Run) → IsLeft after end → (history : Seen) (refusals : List Refusal)
+      → IsRun source (start_objects source) all after.places history refusals → history.entries ≡ history_in (plan_from_start source all after.places) after.state
+      → refusals ≡ all_refusals (plan_from_start source all after.places) after.state → IsScheduledRun source all gives places end history refusals
+  scheduled_is after end left history refusals is_run is_history are_refusals = record {
+    run = left.run;
+    is_history = is_history ∙ ap (λ (n : ℕ). history_in (plan_from_start source all n) after.state) left.places_are ∙ ap (history_in (plan_from_start source all places)) left.state_is;
+    are_refusals = are_refusals ∙ ap (λ (n : ℕ). all_refusals (plan_from_start source all n) after.state) left.places_are ∙ ap (all_refusals (plan_from_start source all places)) left.state_is;
+    is_run = subst (λ (n : ℕ). IsRun source (start_objects source) all n history refusals) left.places_are is_run;
+  }

@@ -292,23 +292,25 @@ pub record Asks (task : Task) : Type 0 where
 
 table_asks : (line : Line) (task : Task) → task_of_line line ≡ Some task
     → Asks task × (task.places ≡ line.places)
-table_asks line task given = go (bytes_eq (codes "serial") line.command) refl (bytes_eq (codes "run") line.command) refl (bytes_eq (codes "show") line.command) refl
+table_asks line task given =
+    go (bytes_eq (codes "serial") line.command) refl (bytes_eq (codes "run") line.command) refl (bytes_eq (codes "show") line.command) refl
+    (bytes_eq (codes "work") line.command) refl
   where
     go : (a : Bool) → bytes_eq (codes "serial") line.command ≡ a → (r : Bool) → bytes_eq (codes "run") line.command ≡ r → (b : Bool) → bytes_eq (codes "show") line.command ≡ b
-        → Asks task × (task.places ≡ line.places)
-    go true serial r run b show =
+        → (d : Bool) → bytes_eq (codes "work") line.command ≡ d → Asks task × (task.places ≡ line.places)
+    go true serial r run b show d work =
         let by : task_by line (record { verb = verbs.Serial; fewest = 1; most = 1 }) ≡ Some task = rw serial at given in
         let asks = by_row line _ task by in
         let fewest = asks.0 in
         let most = asks.1 in
         (record { one = λ e. omega (arith, fewest, most); some = λ e. omega (arith, fewest); few = omega (arith, most) }, asks.3)
-    go false serial true run b show =
+    go false serial true run b show d work =
         let by : task_by line (record { verb = verbs.Run; fewest = 1; most = 64 }) ≡ Some task = rw (serial, run) at given in
         let asks = by_row line _ task by in
         let fewest = asks.0 in
         let most = asks.1 in
         (record { one = λ e. let bad : verbs.Run ≡ verbs.Serial = sym asks.2 ∙ e in absurd (cc); some = λ e. omega (arith, fewest); few = omega (arith, most) }, asks.3)
-    go false serial false run true show =
+    go false serial false run true show d work =
         let by : task_by line (record { verb = verbs.Show; fewest = 0; most = 0 }) ≡ Some task = rw (serial, run, show) at given in
         let asks = by_row line _ task by in
         let most = asks.1 in (
@@ -319,7 +321,18 @@ table_asks line task given = go (bytes_eq (codes "serial") line.command) refl (b
           },
           asks.3,
         )
-    go false serial false run false show = let none : None ≡ Some task = rw (serial, run, show) at given in absurd (cc)
+    go false serial false run false show true work =
+        let by : task_by line (record { verb = verbs.Work; fewest = 2; most = 2 }) ≡ Some task = rw (serial, run, show, work) at given in
+        let asks = by_row line _ task by in
+        let most = asks.1 in (
+          record {
+            one = λ e. let bad : verbs.Work ≡ verbs.Serial = sym asks.2 ∙ e in absurd (cc);
+            some = λ e. let bad : verbs.Work ≡ verbs.Run = sym asks.2 ∙ e in absurd (cc);
+            few = omega (arith, most);
+          },
+          asks.3,
+        )
+    go false serial false run false show false work = let none : None ≡ Some task = rw (serial, run, show, work) at given in absurd (cc)
 
 -- what is asked of the command that the matches give
 pub command_asks : (rows : List Row) (task : Task) → task_of_matches rows ≡ Some task

@@ -1,6 +1,6 @@
 //! Scheduled runs that are not traced, and what they leave.
 
-ghost use Rattle.std.specs.Prelude.{◌≡◌, ◌≤◌, [], All, IfOk, length, map, sum_by, vec_capacity};
+ghost use Rattle.std.specs.Prelude.{◌≡◌, ◌≤◌, [], All, IfOk, length, map, sum_by, vec_capacity, vec_len};
 ghost use Rattle.dl_ir.specs.CallForms.{AreCallsOf};
 ghost use Rattle.dl_ir.specs.Checked.{IsChecked};
 ghost use Rattle.dl_ir.specs.Heap.{start_objects};
@@ -37,6 +37,7 @@ fn run_left(
     requires over { IsRunOver (plan_from_start source.now files.now core.places) core.state files.now }
     requires room { room ≡ sum_by length files.now }
     requires empty { refusals.items ≡ [] }
+    requires none { vec_len refusals ≡ 0 }
     requires large { sum_by length files.now ≤ vec_capacity refusals }
     ensures run { IsRun source.now (start_objects source.now) files.now core.places result.history result.refusals }
     ensures history { result.history.entries ≡ history_in (plan_from_start source.now files.now core.places) core.state }
