@@ -5,14 +5,20 @@ use Rattle.dl_io.specs.Taken.{Taken, Took}
 use Rattle.dl_history.specs.Histories.{Seen}
 use Rattle.dl_ir.specs.declared.answers.Refusal.{Refusal}
 use Rattle.dl_ir.specs.declared.modules.Module.{Module}
-use Rattle.dl_ir.specs.declared.calls.Call.{Call}
-use Rattle.dl_grammar.specs.declared.tree.Tree.{Tree}
+use Rattle.dl_syntax.specs.declared.calls.CallsFault.{CallsFault}
+use Rattle.dl_syntax.specs.declared.calls.CallsFault.TheVariants as calls
+use Rattle.dl_schedule.specs.declared.give.ScheduleFault.{ScheduleFault}
+use Rattle.dl_schedule.specs.declared.give.ScheduleFault.TheVariants as schedules
+use Rattle.dl_command.specs.declared.loading.Input.{Input}
+use Rattle.dl_command.specs.declared.wanted.Form.{Form}
+use Rattle.dl_command.specs.declared.wanted.Form.TheVariants as forms
 use Rattle.dl_command.specs.declared.status.Status.{Status}
 use Rattle.dl_command.specs.declared.status.Status.TheVariants as statuses
-use Rattle.dl_command.specs.Causes.{NoModule, NoCalls, Refuses, Cut}
+use Rattle.dl_command.specs.Causes.{NoModule, NoFile, Refuses, Cut}
 use Rattle.dl_command.specs.Promise.{Ran, Finishes, Ends, Prints, nothing_done}
 use Rattle.dl_command.specs.Reading.{IsUnread, ReadCause, IsWithin}
-use Rattle.dl_command.specs.Texts.{Spells}
+use Rattle.dl_command.specs.Texts.{IsFaultOf, Spells, calls_status, schedule_status}
+use Rattle.dl_command.specs.Wanted.{Wanted}
 use Rattle.dl_command.specs.Words.{IsGood, Text, Task, limit_of, status_of}
 use Rattle.dl_command.specs.declared.words.WordsFault.{WordsFault}
 use Rattle.dl_command.specs.declared.words.WordsFault.TheVariants as faults
@@ -43,14 +49,36 @@ module_refuses {path = path} {old = old} {new = new} {status = status} (NoModule
 module_refuses (NoModule.no_memory is within) = subst IsRefusal (sym is) tt
 module_refuses (NoModule.at_fault line why text is told short is_fault within) = subst IsRefusal (sym is) tt
 
-calls_refuse : {source : Module} {file : ℕ} {path : Text} {old new : Source} {status : Status} → NoCalls source file path old new status → IsRefusal status
-calls_refuse {file = file} {path = path} {old = old} {new = new} {status = status} (NoCalls.unread cause) = read_refuses status file path old new cause
-calls_refuse (NoCalls.no_memory is within) = subst IsRefusal (sym is) tt
-calls_refuse (NoCalls.at_fault line why text is told short is_fault within) = subst IsRefusal (sym is) tt
+calls_told : (file : ℕ) (fault : CallsFault) → IsRefusal (calls_status file fault)
+calls_told file (calls.NotAscii line) = tt
+calls_told file (calls.BadByte line) = tt
+calls_told file (calls.TooMany line) = tt
+calls_told file (calls.NoOp line) = tt
+calls_told file (calls.ArgCount line) = tt
+calls_told file (calls.NotNumber line) = tt
+calls_told file (calls.NoRoot line) = tt
+calls_told file calls.Memory = tt
+
+schedule_told : (file : ℕ) (fault : ScheduleFault) → IsRefusal (schedule_status file fault)
+schedule_told file (schedules.NotAscii line) = tt
+schedule_told file (schedules.BadByte line) = tt
+schedule_told file (schedules.BadStep line) = tt
+schedule_told file (schedules.NoCaller line) = tt
+schedule_told file (schedules.TooMany line) = tt
+schedule_told file schedules.Memory = tt
+
+fault_refuses : (source : Module) (file : ℕ) (form : Form) (text : Text) (status : Status) → IsFaultOf source file form text status → IsRefusal status
+fault_refuses source file (forms.Schedule callers) text status told = subst IsRefusal (sym told.is) (schedule_told file told.fault)
+fault_refuses source file forms.Operations text status told = subst IsRefusal (sym told.is) (calls_told file told.fault)
+
+file_refuses : {source : Module} {file : Wanted} {old new : Source} {status : Status} → NoFile source file old new status → IsRefusal status
+file_refuses {file = file} {old = old} {new = new} {status = status} (NoFile.unread cause) = read_refuses status file.number file.path old new cause
+file_refuses (NoFile.no_memory is within) = subst IsRefusal (sym is) tt
+file_refuses {source = source} {file = file} {status = status} (NoFile.at_fault text told short is_fault within) = fault_refuses source file.number file.form text status is_fault
 
 refuses : {task : Task} {old new : Source} {status : Status} → Refuses task old new status → IsRefusal status
 refuses (Refuses.no_module cause) = module_refuses cause
-refuses (Refuses.no_calls tree source before at path file files is cause) = calls_refuse cause
+refuses (Refuses.no_file tree source before at file source_file files is cause) = file_refuses cause
 refuses (Refuses.no_memory is within) = subst IsRefusal (sym is) tt
 
 -- what is printed is printed by one of two statuses
@@ -84,9 +112,9 @@ refused_long : {task : Task} {old new : Source} {status : Status} (file : ℕ) �
 refused_long {task = task} {old = old} {new = new} {status = status} file (Refuses.no_module (NoModule.unread cause)) is more = read_long status 0 task.first old new file cause is more
 refused_long {new = new} file (Refuses.no_module (NoModule.no_memory e within)) is more = within_long new file within is more
 refused_long {new = new} file (Refuses.no_module (NoModule.at_fault line why text e told short is_fault within)) is more = within_long new file within is more
-refused_long {old = old} {new = new} {status = status} file (Refuses.no_calls tree source before at path source_file files is_path (NoCalls.unread cause)) is more = read_long status (at + 1) path old new file cause is more
-refused_long {new = new} file (Refuses.no_calls tree source before at path source_file files is_path (NoCalls.no_memory e within)) is more = within_long new file within is more
-refused_long {new = new} file (Refuses.no_calls tree source before at path source_file files is_path (NoCalls.at_fault line why text e told short is_fault within)) is more = within_long new file within is more
+refused_long {old = old} {new = new} {status = status} file (Refuses.no_file tree source before at found source_file files is_file (NoFile.unread cause)) is more = read_long status found.number found.path old new file cause is more
+refused_long {new = new} file (Refuses.no_file tree source before at found source_file files is_file (NoFile.no_memory e within)) is more = within_long new file within is more
+refused_long {new = new} file (Refuses.no_file tree source before at found source_file files is_file (NoFile.at_fault text told short is_fault within)) is more = within_long new file within is more
 refused_long {new = new} file (Refuses.no_memory e within) is more = within_long new file within is more
 
 -- what is in two like texts is the same
@@ -114,19 +142,19 @@ refused_most : {task : Task} {old new : Source} {status : Status} (file : ℕ) �
 refused_most {task = task} {old = old} {new = new} {status = status} file (Refuses.no_module (NoModule.unread cause)) is = read_most status 0 task.first old new file cause is
 refused_most {new = new} file (Refuses.no_module (NoModule.no_memory e within)) is = within_most new file within is
 refused_most {new = new} file (Refuses.no_module (NoModule.at_fault line why text e told short is_fault within)) is = within_most new file within is
-refused_most {old = old} {new = new} {status = status} file (Refuses.no_calls tree source before at path source_file files is_path (NoCalls.unread cause)) is = read_most status (at + 1) path old new file cause is
-refused_most {new = new} file (Refuses.no_calls tree source before at path source_file files is_path (NoCalls.no_memory e within)) is = within_most new file within is
-refused_most {new = new} file (Refuses.no_calls tree source before at path source_file files is_path (NoCalls.at_fault line why text e told short is_fault within)) is = within_most new file within is
+refused_most {old = old} {new = new} {status = status} file (Refuses.no_file tree source before at found source_file files is_file (NoFile.unread cause)) is = read_most status found.number found.path old new file cause is
+refused_most {new = new} file (Refuses.no_file tree source before at found source_file files is_file (NoFile.no_memory e within)) is = within_most new file within is
+refused_most {new = new} file (Refuses.no_file tree source before at found source_file files is_file (NoFile.at_fault text told short is_fault within)) is = within_most new file within is
 refused_most {new = new} file (Refuses.no_memory e within) is = within_most new file within is
 
 -- a call of which the files were read ends as its command finishes
 pub ends_finished : {given : Option Task} {old new : Source} {before after : Taken} {status : Status} {history : Seen} {refusals : List Refusal}
-    (task : Task) {tree : Tree} {source : Module} {all : List (List Call)} → given ≡ Some task → Spells old task tree source all → IsWithin new →
-    Finishes task.verb tree source all task.places before after status history refusals → Ends given old new before after status history refusals
+    (task : Task) {input : Input} → given ≡ Some task → Spells old task input → IsWithin new →
+    Finishes task.verb input task.places before after status history refusals → Ends given old new before after status history refusals
 ends_finished task is_task spells within (Finishes.no_memory is same_taken no_history no_refusals) =
     Ends.refused task is_task (Refuses.no_memory is within) same_taken no_history no_refusals
-ends_finished task {tree = tree} {source = source} {all = all} is_task spells within (Finishes.wrote text writes prints) =
-    Ends.ran text (record { task = task; is_task = is_task; tree = tree; source = source; all = all; spells = spells; writes = writes }) within prints
+ends_finished task {input = input} is_task spells within (Finishes.wrote text writes prints) =
+    Ends.ran text (record { task = task; is_task = is_task; input = input; spells = spells; writes = writes }) within prints
 
 -- a call whose words give no command ends by what is amiss with them
 pub ends_without_command : {given : Option Task} {old : Source} {before : Taken} {status : Status} {history : Seen} {refusals : List Refusal}

@@ -1,7 +1,6 @@
 -- A text is one module, or has one fault.
-use Rattle.std.proofs.Common.{◌≡◌, ℕ, List, Result, Ok, Err, refl, sym, ◌∙◌, ap, subst}
+use Rattle.std.proofs.Common.{◌≡◌, ℕ, List, [], Result, Ok, Err, refl, sym, ◌∙◌, ap, subst}
 use Rattle.dl_ir.specs.declared.modules.Module.{Module}
-use Rattle.dl_ir.specs.declared.calls.Call.{Call}
 use Rattle.dl_grammar.specs.Texts.{IsSyntaxFault}
 use Rattle.dl_grammar.specs.declared.fault.SyntaxFault.{SyntaxFault}
 use Rattle.dl_grammar.specs.declared.fault.SyntaxFault.TheVariants as syntax
@@ -10,18 +9,25 @@ use Rattle.dl_types.specs.Rules.{IsTree}
 use Rattle.dl_types.proofs.TreeLaws.{one_outcome}
 use Rattle.dl_types.specs.declared.fault.TypeFault.{TypeFault}
 use Rattle.dl_types.specs.declared.fault.TypeFault.TheVariants as types
-use Rattle.dl_syntax.specs.Rules.{IsCallsFile}
+use Rattle.dl_syntax.specs.Line.{lines_of}
+use Rattle.dl_syntax.specs.Rules.{IsCallsFault}
 use Rattle.dl_syntax.proofs.RuleLaws.{one_calls_fault, no_calls_fault}
-use Rattle.dl_syntax.specs.declared.calls.CallsFault.{CallsFault}
 use Rattle.dl_syntax.specs.declared.calls.CallsFault.TheVariants as faults
+use Rattle.dl_schedule.specs.Rules.{IsScheduleFault, LinesSay}
+use Rattle.dl_schedule.specs.declared.give.Give.{Give}
+use Rattle.dl_schedule.specs.declared.give.ScheduleFault.{ScheduleFault}
+use Rattle.dl_schedule.specs.declared.give.ScheduleFault.TheVariants as schedules
+use Rattle.dl_schedule.proofs.RuleLaws.{say_lines}
+use Rattle.dl_command.specs.declared.loading.Content.{Content}
+use Rattle.dl_command.specs.declared.loading.Content.TheVariants as contents
+use Rattle.dl_command.specs.declared.wanted.Form.{Form}
+use Rattle.dl_command.specs.declared.wanted.Form.TheVariants as forms
 use Rattle.dl_command.specs.declared.status.Status.{Status}
 use Rattle.dl_command.specs.declared.status.Status.TheVariants as statuses
 use Rattle.dl_command.specs.declared.status.ModuleWhy.{ModuleWhy}
 use Rattle.dl_command.specs.declared.status.ModuleWhy.TheVariants as modules
-use Rattle.dl_command.specs.declared.status.OpsWhy.{OpsWhy}
-use Rattle.dl_command.specs.declared.status.OpsWhy.TheVariants as whys
 use Rattle.dl_command.specs.Loading.{syntax_status, type_status}
-use Rattle.dl_command.specs.Texts.{IsModuleText, HasTypeFault, IsModuleFault, IsOpsFault, calls_fault}
+use Rattle.dl_command.specs.Texts.{IsModuleText, HasTypeFault, IsModuleFault, IsFaultOf, IsToldBy, Says, calls_status, schedule_status}
 use Rattle.dl_command.specs.Words.{Text}
 
 -- a fault of a module text is one of its tokens or one of its tree
@@ -83,33 +89,29 @@ pub one_module_fault : (text : Text) (line other : ℕ) (why otherwise : ModuleW
     statuses.ModuleFault line why ≡ statuses.ModuleFault other otherwise
 one_module_fault text line other why otherwise is is_other = same_answer text _ _ (view text line why is) (view text other otherwise is_other)
 
--- the status of a fault of an operation file
-abbrev ops_status : ℕ → CallsFault → Status
-ops_status file (faults.NotAscii line) = statuses.OpsFault file line whys.NotAscii
-ops_status file (faults.BadByte line) = statuses.OpsFault file line whys.BadByte
-ops_status file (faults.TooMany line) = statuses.OpsFault file line whys.TooMany
-ops_status file (faults.NoOp line) = statuses.OpsFault file line whys.NoOp
-ops_status file (faults.ArgCount line) = statuses.OpsFault file line whys.ArgCount
-ops_status file (faults.NotNumber line) = statuses.OpsFault file line whys.NotNumber
-ops_status file (faults.NoRoot line) = statuses.OpsFault file line whys.NoRoot
-ops_status file faults.Memory = statuses.Memory
+-- a fault that there is once has one status
+one_told : {Fault : Type 0} (is_fault : Fault → Type 0) (memory : Fault) (told : Fault → Status) (a b : Status) → ((f g : Fault) → is_fault f → is_fault g → f ≡ g)
+    → IsToldBy is_fault memory told a → IsToldBy is_fault memory told b → a ≡ b
+one_told is_fault memory told a b one is_a is_b = is_a.is ∙ ap told (one is_a.fault is_b.fault is_a.at_fault is_b.at_fault) ∙ sym is_b.is
 
-named : (file line : ℕ) (why : OpsWhy) → ops_status file (calls_fault line why) ≡ statuses.OpsFault file line why
-named file line whys.NotAscii = refl
-named file line whys.BadByte = refl
-named file line whys.TooMany = refl
-named file line whys.NoOp = refl
-named file line whys.ArgCount = refl
-named file line whys.NotNumber = refl
-named file line whys.NoRoot = refl
+-- a schedule has at most one fault
+schedule_outcome : (callers : ℕ) (text : Text) (a b : Result (List Give) ScheduleFault) → LinesSay callers 1 [] (lines_of text) a → LinesSay callers 1 [] (lines_of text) b → a ≡ b
+schedule_outcome callers text a b says_a says_b = sym (say_lines callers a 1 [] (lines_of text) says_a) ∙ say_lines callers b 1 [] (lines_of text) says_b
 
--- an operation file has at most one fault
-pub one_ops_fault : (source : Module) (text : Text) (file line other : ℕ) (why otherwise : OpsWhy) → IsOpsFault source text line why →
-    IsOpsFault source text other otherwise → statuses.OpsFault file line why ≡ statuses.OpsFault file other otherwise
-one_ops_fault source text file line other why otherwise is is_other =
-    sym (named file line why) ∙ ap (ops_status file) (one_calls_fault source text (calls_fault line why) (calls_fault other otherwise) is is_other) ∙ named file other otherwise
+one_schedule_fault : (callers : ℕ) (text : Text) (a b : ScheduleFault) → IsScheduleFault callers text a → IsScheduleFault callers text b → a ≡ b
+one_schedule_fault callers text a b is_a is_b = one_err (schedule_outcome callers text (Err a) (Err b) is_a is_b)
 
--- and has none where it says calls
-pub calls_or_fault : {P : Type 0} (source : Module) (text : Text) (calls : List Call) (line : ℕ) (why : OpsWhy) → IsCallsFile source text calls →
-    IsOpsFault source text line why → P
-calls_or_fault source text calls line why is fault = absurd (no_calls_fault source text calls (calls_fault line why) is fault)
+-- a text has at most one fault of a form
+pub one_fault : (source : Module) (file : ℕ) (form : Form) (text : Text) (a b : Status) → IsFaultOf source file form text a → IsFaultOf source file form text b → a ≡ b
+one_fault source file (forms.Schedule callers) text a b is_a is_b =
+    one_told (IsScheduleFault callers text) schedules.Memory (schedule_status file) a b (one_schedule_fault callers text) is_a is_b
+one_fault source file forms.Operations text a b is_a is_b =
+    one_told (IsCallsFault source text) faults.Memory (calls_status file) a b (one_calls_fault source text) is_a is_b
+
+-- and has none where it says something
+pub says_or_fault : {P : Type 0} (source : Module) (file : ℕ) (form : Form) (text : Text) (content : Content) (status : Status) → Says source form text content →
+    IsFaultOf source file form text status → P
+says_or_fault source file (forms.Schedule callers) text (contents.Schedule gives) status says fault = ok_or_err (schedule_outcome callers text (Ok gives) (Err fault.fault) says fault.at_fault)
+says_or_fault source file (forms.Schedule callers) text (contents.Calls calls) status says fault = absurd says
+says_or_fault source file forms.Operations text (contents.Schedule gives) status says fault = absurd says
+says_or_fault source file forms.Operations text (contents.Calls calls) status says fault = absurd (no_calls_fault source text calls fault.fault says fault.at_fault)

@@ -1,31 +1,36 @@
 -- Files that are read one after another.
-use Rattle.std.proofs.Common.{◌≡◌, ℕ, ◌+◌, ◌<◌, List, [], ◌∷◌, ◌++◌, Option, Some, take, length, refl, sym, ◌∙◌, ap, subst, get_or, add-one, suc}
-use Rattle.std.specs.Prelude.{All, slice_get, IfSome, Contains, map, option_map}
-use Rattle.std.specs.List.{take-map}
-use Rattle.std.proofs.lemmas.Option.{slice_get-map, slice_get_read}
-use Rattle.std.specs.Borrow.{Bor}
-use Rattle.std.proofs.lemmas.List.{get_or_default, take_more, map-append}
+use Rattle.std.proofs.Common.{◌≡◌, ℕ, ◌+◌, ◌<◌, ◌≤◌, List, [], ◌∷◌, ◌++◌, Option, Some, Ok, take, get_or, map, length, refl, sym, ◌∙◌, ap, subst, arith, length-append}
+use Rattle.std.specs.Prelude.{All, slice_get, IfSome, Contains}
 use Rattle.std.proofs.Math.Nat.{le_trans}
+use Rattle.std.proofs.lemmas.List.Elements.{All-nil, All-push}
 use Rattle.dl_io.specs.Source.{Source, SameFiles, Tells}
 use Rattle.dl_ir.specs.declared.modules.Module.{Module}
-use Rattle.dl_ir.specs.declared.calls.Call.{Call}
 use Rattle.dl_grammar.specs.declared.tree.Tree.{Tree}
 use Rattle.dl_ir.specs.CallForms.{AreCallsOf}
+use Rattle.dl_schedule.specs.declared.give.Give.{Give}
+use Rattle.dl_schedule.specs.Rules.{IsGiveOf}
+use Rattle.dl_schedule.proofs.RuleLaws.{spelled_in_range}
+use Rattle.dl_command.specs.declared.loading.Content.{Content}
+use Rattle.dl_command.specs.declared.loading.Content.TheVariants as contents
 use Rattle.dl_command.specs.declared.status.Status.{Status}
 use Rattle.dl_command.specs.declared.status.Status.TheVariants as statuses
-use Rattle.dl_command.specs.Causes.{NoCalls, Refuses}
-use Rattle.dl_command.specs.Loading.{StopsAt}
+use Rattle.dl_command.specs.declared.wanted.WantedFile.{WantedFile as Held}
+use Rattle.dl_command.specs.declared.words.Verb.TheVariants as verbs
+use Rattle.dl_command.specs.Causes.{NoFile, Refuses}
+use Rattle.dl_command.specs.Loading.{IsFine, StopsAt}
 use Rattle.dl_command.specs.Reading.{AfterReading, IsWithin, ReadCause, Fails, IsTooLong}
-use Rattle.dl_command.specs.Texts.{IsFile, AreFiles, IsModuleFile}
+use Rattle.dl_command.specs.Texts.{IsFile, AreFiles, IsModuleFile, Behind, nothing_behind, with_content}
+use Rattle.dl_command.specs.Wanted.{Wanted, operations_from, wanted, wanted_by, wanted_held}
 use Rattle.dl_command.specs.Words.{Text, Task}
 use Rattle.dl_text.proofs.WritingLemmas.{rose_later}
+use Rattle.dl_command.proofs.WantedLemmas.{seen_to}
 
 -- what holds while files are read one after another
-pub record Loaded (source : Module) (start now : Source) (paths : List Text) (all : List (List Call)) : Type 0 where
+pub record Loaded (source : Module) (start now : Source) (wanted : List Wanted) (behind : Behind) : Type 0 where
   pub after : AfterReading start now
   pub within : IsWithin now
-  pub files : AreFiles source start paths all
-  pub calls : All (AreCallsOf source) all
+  pub files : AreFiles source start wanted nothing_behind behind
+  pub calls : All (AreCallsOf source) behind.all
 
 -- reading twice is reading
 pub after_both : {start now new : Source} → AfterReading start now → AfterReading now new → AfterReading start new
@@ -39,8 +44,8 @@ pub told_before : {start now : Source} (path text : List ℕ) → SameFiles star
 told_before path text same told = subst (λ (at : List ℕ → Option (List ℕ)). Tells (at path) text) same.bytes told
 
 -- a file that is as it should be later is so before
-pub file_before : {source : Module} {start now : Source} {path : Text} {calls : List Call} → SameFiles start now → IsFile source now path calls → IsFile source start path calls
-file_before {path = path} same file = record { text = file.text; told = told_before path file.text same file.told; short = file.short; spells = file.spells }
+pub file_before : {source : Module} {start now : Source} {wanted : Wanted} {content : Content} → SameFiles start now → IsFile source now wanted content → IsFile source start wanted content
+file_before {wanted = wanted} same file = record { text = file.text; told = told_before wanted.path file.text same file.told; short = file.short; says = file.says }
 
 fails_before : {start now new : Source} {file : ℕ} {path : Text} → AfterReading start now → Fails file path now new → Fails file path start new
 fails_before {path = path} after fails = record {
@@ -69,58 +74,87 @@ read_before start now new file path (statuses.OpsFault f line why) after cause =
 read_before start now new file path statuses.WriteFault after cause = cause
 
 -- one more file
-pub files_push : (source : Module) (files : Source) (paths : List Text) (all : List (List Call)) (path : Text) (calls : List Call) →
-    AreFiles source files paths all → IsFile source files path calls → AreFiles source files (paths ++ path ∷ []) (all ++ calls ∷ [])
-files_push source files [] [] path calls are is = (is, tt)
-files_push source files [] (c ∷ all) path calls are is = elim are [ ]
-files_push source files (p ∷ paths) [] path calls are is = elim are [ ]
-files_push source files (p ∷ paths) (c ∷ all) path calls are is = (are.0, files_push source files paths all path calls are.1 is)
+pub files_push : (source : Module) (files : Source) (wanted : List Wanted) (before after : Behind) (file : Wanted) (content : Content) →
+    AreFiles source files wanted before after → IsFile source files file content → AreFiles source files (wanted ++ file ∷ []) before (with_content after content)
+files_push source files [] before after file content are is = (content, is, ap (λ (behind : Behind). with_content behind content) are)
+files_push source files (first ∷ wanted) before after file content are is = (are.0, are.1, files_push source files wanted (with_content before are.0) after file content are.2 is)
 
--- why an operation file was not taken, seen later, is why it was not in the whole call
-pub no_calls_before : {source : Module} {start now new : Source} {file : ℕ} {path : Text} {status : Status} → AfterReading start now →
-    NoCalls source file path now new status → NoCalls source file path start new status
-no_calls_before {start = start} {now = now} {new = new} {file = file} {path = path} {status = status} after (NoCalls.unread cause) =
-    NoCalls.unread (read_before start now new file path status after cause)
-no_calls_before after (NoCalls.no_memory is within) = NoCalls.no_memory is within
-no_calls_before {path = path} after (NoCalls.at_fault line why text is told short is_fault within) =
-    NoCalls.at_fault line why text is (told_before path text after.same told) short is_fault within
-
--- what a list of paths has past its end
-abbrev pub no_path : Bor Text
-no_path = record { ref_ptr = (0, 0); now = [] }
-
--- the path at a place
-pub word_at : (paths : List (Bor Text)) (i : ℕ) → i < length paths → slice_get (map (λ path. path.now) paths) i ≡ Some (get_or paths i no_path).now
-word_at paths i within =
-    slice_get-map (λ path. path.now) paths i
-    ∙ ap (option_map (λ path. path.now)) (slice_get_read paths (length paths) i (get_or paths i no_path) refl within (get_or_default paths i no_path (get_or paths i no_path) within))
-
--- the paths up to and with the one at a place
-pub words_to : (paths : List (Bor Text)) (i : ℕ) → i < length paths →
-    take (i + 1) (map (λ path. path.now) paths) ≡ take i (map (λ path. path.now) paths) ++ (get_or paths i no_path).now ∷ []
-words_to paths i within =
-    take-map (λ path. path.now) (i + 1) paths
-    ∙ ap (map (λ path. path.now)) (take_more paths i no_path within)
-    ∙ map-append (λ path. path.now) (take i paths) (get_or paths i no_path ∷ [])
-    ∙ ap (λ ws. ws ++ (get_or paths i no_path).now ∷ []) (sym (take-map (λ path. path.now) i paths))
-
--- as many files as paths
-pub files_length : (source : Module) (files : Source) (paths : List Text) (all : List (List Call)) → AreFiles source files paths all → length all ≡ length paths
-files_length source files [] [] are = refl
-files_length source files [] (c ∷ all) are = elim are [ ]
-files_length source files (p ∷ paths) [] are = elim are [ ]
-files_length source files (p ∷ paths) (c ∷ all) are = ap suc (files_length source files paths all are.1)
+-- why a file was not taken, seen later, is why it was not in the whole call
+pub no_file_before : {source : Module} {start now new : Source} {file : Wanted} {status : Status} → AfterReading start now →
+    NoFile source file now new status → NoFile source file start new status
+no_file_before {start = start} {now = now} {new = new} {file = file} {status = status} after (NoFile.unread cause) =
+    NoFile.unread (read_before start now new file.number file.path status after cause)
+no_file_before after (NoFile.no_memory is within) = NoFile.no_memory is within
+no_file_before {file = file} after (NoFile.at_fault text told short is_fault within) =
+    NoFile.at_fault text (told_before file.path text after.same told) short is_fault within
 
 -- files that are as they should be later are so before
-pub files_before : (source : Module) (start now : Source) (paths : List Text) (all : List (List Call)) → SameFiles start now → AreFiles source now paths all → AreFiles source start paths all
-files_before source start now [] [] same are = are
-files_before source start now [] (c ∷ all) same are = elim are [ ]
-files_before source start now (p ∷ paths) [] same are = elim are [ ]
-files_before source start now (p ∷ paths) (c ∷ all) same are = (file_before same are.0, files_before source start now paths all same are.1)
+pub files_before : (source : Module) (start now : Source) (wanted : List Wanted) (before after : Behind) → SameFiles start now → AreFiles source now wanted before after → AreFiles source start wanted before after
+files_before source start now [] before after same are = are
+files_before source start now (file ∷ wanted) before after same are = (are.0, file_before same are.1, files_before source start now wanted (with_content before are.0) after same are.2)
 
 -- why the files behind the module were not taken is why those of the command were not
-pub refuses_calls : {tree : Tree} {source : Module} {start now new : Source} {task : Task} {status : Status} → AfterReading start now → IsModuleFile start task.first tree source →
-    StopsAt source task.rest now new status → Refuses task start new status
-refuses_calls {tree = tree} {source = source} {start = start} {now = now} {task = task} after file (StopsAt.no_calls before at path files is cause) =
-    Refuses.no_calls tree source before at path file (files_before source start now (take at task.rest) before after.same files) (rw add-one is) (no_calls_before after cause)
-refuses_calls after file (StopsAt.no_memory is within) = Refuses.no_memory is within
+pub refuses_behind : {tree : Tree} {source : Module} {start now new : Source} {task : Task} {status : Status} → AfterReading start now → IsModuleFile start task.first tree source →
+    StopsAt source (wanted task) now new status → Refuses task start new status
+refuses_behind {tree = tree} {source = source} {start = start} {now = now} {task = task} after source_file (StopsAt.no_file before at file files is cause) =
+    Refuses.no_file tree source before at file source_file (files_before source start now (take at (wanted task)) nothing_behind before after.same files) is (no_file_before after cause)
+refuses_behind after source_file (StopsAt.no_memory is within) = Refuses.no_memory is within
+
+-- calls are kept where one more content is fine
+pub calls_with : (source : Module) (behind : Behind) (content : Content) → All (AreCallsOf source) behind.all → IsFine source content → All (AreCallsOf source) (with_content behind content).all
+calls_with source behind (contents.Schedule gives) calls fine = calls
+calls_with source behind (contents.Calls more) calls fine = All-push (AreCallsOf source) behind.all more calls fine
+
+-- a list of operation files says the calls of so many files, and no schedule
+pub record AreOperations (before after : Behind) (paths : List Text) : Type 0 where
+  pub count : length after.all ≡ length before.all + length paths
+  pub gives : after.gives ≡ before.gives
+
+pub operations_say : (source : Module) (files : Source) (number : ℕ) (paths : List Text) (before after : Behind) → AreFiles source files (operations_from number paths) before after → AreOperations before after paths
+operations_say source files number [] before after are =
+    record { count = (let e = ap (λ (behind : Behind). length behind.all) are in omega (arith, e)); gives = ap (λ (behind : Behind). behind.gives) are }
+operations_say source files number (path ∷ paths) before after (contents.Schedule gives, is, are) = absurd is.says
+operations_say source files number (path ∷ paths) before after (contents.Calls calls, is, are) =
+    let rest = operations_say source files (number + 1) paths (with_content before (contents.Calls calls)) after are in
+    let longer : length (before.all ++ calls ∷ []) ≡ length before.all + 1 = length-append before.all (calls ∷ []) in
+    let count = rest.count in
+    record { count = omega (arith, count, longer); gives = rest.gives }
+
+-- there are calls for each operation file, and a schedule gives steps to their callers alone
+pub record AreBehind (count : ℕ) (behind : Behind) : Type 0 where
+  pub all : length behind.all ≡ count
+  pub gives : All (IsGiveOf count) behind.gives
+
+no_gives : (count : ℕ) → All (IsGiveOf count) []
+no_gives count = All-nil (IsGiveOf count)
+
+pub operations_behind : (source : Module) (files : Source) (paths : List Text) (after : Behind) → AreFiles source files (operations_from 1 paths) nothing_behind after → AreBehind (length paths) after
+operations_behind source files paths after are =
+    let is = operations_say source files 1 paths nothing_behind after are in
+    let count = is.count in
+    record { all = omega (arith, count); gives = subst (λ (gives : List Give). All (IsGiveOf (length paths)) gives) (sym is.gives) (no_gives (length paths)) }
+
+pub step_behind : (source : Module) (files : Source) (path : Text) (paths : List Text) (after : Behind) → AreFiles source files (wanted_by verbs.Step (path ∷ paths)) nothing_behind after → AreBehind (length paths) after
+step_behind source files path paths after (contents.Calls calls, is, are) = absurd is.says
+step_behind source files path paths after (contents.Schedule gives, is, are) =
+    let rest = operations_say source files 2 paths (with_content nothing_behind (contents.Schedule gives)) after are in
+    let range = spelled_in_range (length paths) is.text (Ok gives) is.says in
+    let count = rest.count in
+    record { all = omega (arith, count); gives = subst (λ (gs : List Give). All (IsGiveOf (length paths)) gs) (sym rest.gives) range.each }
+
+pub step_counts : (source : Module) (files : Source) (rest : List Text) (behind : Behind) → 2 ≤ length rest → AreFiles source files (wanted_by verbs.Step rest) nothing_behind behind
+    → (count : ℕ) × (count + 1 ≡ length rest) × AreBehind count behind
+step_counts source files [] behind more are = absurd (omega (arith, more))
+step_counts source files (path ∷ paths) behind more are = (length paths, omega arith, step_behind source files path paths behind are)
+
+-- one more file was read
+pub loaded_more : {source : Module} {start now new : Source} (files : List Held) (i : ℕ) (d : Held) (behind : Behind) (content : Content) → i < length files
+    → Loaded source start now (take i (map wanted_held files)) behind → AfterReading now new → IsWithin new → IsFile source now (wanted_held (get_or files i d)) content → IsFine source content
+    → Loaded source start new (take (i + 1) (map wanted_held files)) (with_content behind content)
+loaded_more {source = source} {start = start} {new = new} files i d behind content inside loaded after within is fine =
+    subst (λ (wanted : List Wanted). Loaded source start new wanted (with_content behind content)) (sym (seen_to wanted_held files i d inside)) record {
+      after = after_both loaded.after after;
+      within = within;
+      files = files_push source start (take i (map wanted_held files)) nothing_behind behind (wanted_held (get_or files i d)) content loaded.files (file_before loaded.after.same is);
+      calls = calls_with source behind content loaded.calls fine;
+    }

@@ -1,5 +1,6 @@
 -- The lemmas of the program.
 mod EndLemmas
+mod WantedLemmas
 mod FileLemmas
 mod LoadingLemmas
 mod ReadingLemmas
@@ -12,6 +13,7 @@ mod WritingEnds
 mod CountLemmas
 mod PlanLemmas
 mod OverLemmas
+mod StepLemmas
 mod LeftLemmas
 mod PromiseLemmas
 mod NumberLemmas

@@ -1,8 +1,7 @@
 -- The causes of statuses that faults of texts are answered with.
-use Rattle.std.proofs.Common.{◌≢◌, ◌≤◌, ℕ, List, length, Result, Ok, Err, IfErr, refl, sym, ◌∙◌, subst}
+use Rattle.std.proofs.Common.{◌≢◌, ◌≤◌, ℕ, List, length, Result, Ok, Err, IfErr, IfOk, refl}
 use Rattle.dl_io.specs.Source.{Source, Tells}
 use Rattle.dl_ir.specs.declared.modules.Module.{Module}
-use Rattle.dl_ir.specs.declared.calls.Call.{Call}
 use Rattle.dl_grammar.specs.Texts.{Spells, IsSyntaxFault}
 use Rattle.dl_grammar.specs.declared.tree.Tree.{Tree}
 use Rattle.dl_grammar.specs.declared.fault.SyntaxFault.{SyntaxFault}
@@ -15,30 +14,38 @@ use Rattle.dl_syntax.specs.Rules.{IsCallsFault}
 use Rattle.dl_syntax.specs.declared.calls.CallsFault.{CallsFault}
 use Rattle.dl_syntax.specs.declared.calls.CallsFault.TheVariants as faults
 use Rattle.dl_command.specs.declared.status.Status.{Status}
-use Rattle.dl_command.specs.declared.status.OpsWhy.{OpsWhy}
-use Rattle.dl_command.specs.declared.status.OpsWhy.TheVariants as why
-use Rattle.dl_command.specs.Causes.{NoModule, NoCalls}
-use Rattle.dl_command.specs.Loading.{syntax_status, type_status, ParseCause, CallsCause, OpsCause}
+use Rattle.dl_schedule.specs.Rules.{IsScheduleFault}
+use Rattle.dl_schedule.specs.declared.give.ScheduleFault.{ScheduleFault}
+use Rattle.dl_schedule.specs.declared.give.ScheduleFault.TheVariants as schedules
+use Rattle.dl_command.specs.declared.loading.Content.{Content}
+use Rattle.dl_command.specs.declared.wanted.Form.TheVariants as forms
+use Rattle.dl_command.specs.Causes.{NoModule, NoFile}
+use Rattle.dl_command.specs.Loading.{syntax_status, type_status, ParseCause, TextCause}
 use Rattle.dl_command.specs.Reading.{IsWithin}
-use Rattle.dl_command.specs.Texts.{calls_fault}
+use Rattle.dl_command.specs.Texts.{IsFile, Says, calls_status, schedule_status}
+use Rattle.dl_command.specs.Wanted.{Wanted}
 use Rattle.dl_command.specs.Words.{limit_of}
 
--- a fault of a text is no want of memory
-calls_fault-other : (line : ℕ) (w : OpsWhy) → calls_fault line w ≢ faults.Memory
-calls_fault-other line why.NotAscii = λ e. cc
-calls_fault-other line why.BadByte = λ e. cc
-calls_fault-other line why.TooMany = λ e. cc
-calls_fault-other line why.NoOp = λ e. cc
-calls_fault-other line why.ArgCount = λ e. cc
-calls_fault-other line why.NotNumber = λ e. cc
-calls_fault-other line why.NoRoot = λ e. cc
-
 -- the status of a fault has the cause that the fault has
-pub ops_cause : {source : Module} {text : List ℕ} {file : ℕ} {fault : CallsFault} {status : Status} →
-    (fault ≢ faults.Memory → IsCallsFault source text fault) → CallsCause file fault status → OpsCause source text file status
-ops_cause {source = source} {text = text} found (CallsCause.at_fault line w is is_fault) =
-    OpsCause.at_fault line w is (subst (λ f. IsCallsFault source text f) is_fault (found (λ e. calls_fault-other line w (sym is_fault ∙ e))))
-ops_cause found (CallsCause.no_memory is is_fault) = OpsCause.no_memory is
+pub calls_cause : {source : Module} {text : List ℕ} {file : ℕ} (fault : CallsFault) → (fault ≢ faults.Memory → IsCallsFault source text fault)
+    → TextCause source file forms.Operations text (calls_status file fault)
+calls_cause (faults.NotAscii line) found = TextCause.at_fault (record { fault = faults.NotAscii line; at_fault = found (λ e. cc); other = λ e. cc; is = refl })
+calls_cause (faults.BadByte line) found = TextCause.at_fault (record { fault = faults.BadByte line; at_fault = found (λ e. cc); other = λ e. cc; is = refl })
+calls_cause (faults.TooMany line) found = TextCause.at_fault (record { fault = faults.TooMany line; at_fault = found (λ e. cc); other = λ e. cc; is = refl })
+calls_cause (faults.NoOp line) found = TextCause.at_fault (record { fault = faults.NoOp line; at_fault = found (λ e. cc); other = λ e. cc; is = refl })
+calls_cause (faults.ArgCount line) found = TextCause.at_fault (record { fault = faults.ArgCount line; at_fault = found (λ e. cc); other = λ e. cc; is = refl })
+calls_cause (faults.NotNumber line) found = TextCause.at_fault (record { fault = faults.NotNumber line; at_fault = found (λ e. cc); other = λ e. cc; is = refl })
+calls_cause (faults.NoRoot line) found = TextCause.at_fault (record { fault = faults.NoRoot line; at_fault = found (λ e. cc); other = λ e. cc; is = refl })
+calls_cause faults.Memory found = TextCause.no_memory refl
+
+pub schedule_cause : {source : Module} {text : List ℕ} {file callers : ℕ} (fault : ScheduleFault) → (fault ≢ schedules.Memory → IsScheduleFault callers text fault)
+    → TextCause source file (forms.Schedule callers) text (schedule_status file fault)
+schedule_cause (schedules.NotAscii line) found = TextCause.at_fault (record { fault = schedules.NotAscii line; at_fault = found (λ e. cc); other = λ e. cc; is = refl })
+schedule_cause (schedules.BadByte line) found = TextCause.at_fault (record { fault = schedules.BadByte line; at_fault = found (λ e. cc); other = λ e. cc; is = refl })
+schedule_cause (schedules.BadStep line) found = TextCause.at_fault (record { fault = schedules.BadStep line; at_fault = found (λ e. cc); other = λ e. cc; is = refl })
+schedule_cause (schedules.NoCaller line) found = TextCause.at_fault (record { fault = schedules.NoCaller line; at_fault = found (λ e. cc); other = λ e. cc; is = refl })
+schedule_cause (schedules.TooMany line) found = TextCause.at_fault (record { fault = schedules.TooMany line; at_fault = found (λ e. cc); other = λ e. cc; is = refl })
+schedule_cause schedules.Memory found = TextCause.no_memory refl
 
 -- why a module that was read to its end is not taken
 pub no_source : {T : Type 0} (old new : Source) (path text : List ℕ) (r : Result T Status) → Tells (old.bytes_at path) text → length text ≤ limit_of 0 → IsWithin new →
@@ -47,12 +54,18 @@ no_source old new path text (Ok found) told short within cause = tt
 no_source old new path text (Err status) told short within (ParseCause.at_fault line w is is_fault) = NoModule.at_fault line w text is told short is_fault within
 no_source old new path text (Err status) told short within (ParseCause.no_memory is) = NoModule.no_memory is within
 
--- why an operation file that was read to its end is not taken
-pub no_calls : (old new : Source) (source : Module) (file : ℕ) (path text : List ℕ) (r : Result (List Call) Status) → Tells (old.bytes_at path) text → length text ≤ limit_of file → IsWithin new →
-    IfErr r (OpsCause source text file) → IfErr r (NoCalls source file path old new)
-no_calls old new source file path text (Ok calls) told short within cause = tt
-no_calls old new source file path text (Err status) told short within (OpsCause.at_fault line w is is_fault) = NoCalls.at_fault line w text is told short is_fault within
-no_calls old new source file path text (Err status) told short within (OpsCause.no_memory is) = NoCalls.no_memory is within
+-- why a file that was read to its end is not taken
+pub no_file : {T : Type 0} (old new : Source) (source : Module) (file : Wanted) (text : List ℕ) (r : Result T Status) → Tells (old.bytes_at file.path) text → length text ≤ limit_of file.number → IsWithin new →
+    IfErr r (TextCause source file.number file.form text) → IfErr r (NoFile source file old new)
+no_file old new source file text (Ok content) told short within cause = tt
+no_file old new source file text (Err status) told short within (TextCause.at_fault is_fault) = NoFile.at_fault text told short is_fault within
+no_file old new source file text (Err status) told short within (TextCause.no_memory is) = NoFile.no_memory is within
+
+-- a file that was read to its end says what its text says
+pub says_file : (old : Source) (source : Module) (file : Wanted) (text : List ℕ) (r : Result Content Status) → Tells (old.bytes_at file.path) text → length text ≤ limit_of file.number →
+    IfOk r (Says source file.form text) → IfOk r (IsFile source old file)
+says_file old source file text (Ok content) told short says = record { text = text; told = told; short = short; says = says }
+says_file old source file text (Err status) told short says = tt
 
 -- the status of a fault of a text has the cause that the fault has
 pub syntax_cause : (text : List ℕ) (fault : SyntaxFault) → (fault ≢ syntax.Memory → IsSyntaxFault text fault) → ParseCause text (syntax_status fault)

@@ -1,6 +1,7 @@
 -- The order of refusals, and what is done where nothing calls for one.
-use Rattle.std.proofs.Common.{◌≡◌, ℕ, suc, ◌+◌, ◌<◌, ◌≤◌, List, ◌∷◌, Option, Some, take, refl, sym, subst, arith, add-one, ◌⊎◌, inl, inr}
-use Rattle.std.specs.Prelude.{All, Contains, slice_get}
+use Rattle.std.proofs.Common.{◌≡◌, ℕ, suc, ◌+◌, ◌<◌, ◌≤◌, List, ◌∷◌, Option, Some, take, map, refl, sym, ◌∙◌, ap, subst, arith, ◌⊎◌, inl, inr}
+use Rattle.std.specs.Prelude.{All, Contains, slice_get, option_map}
+use Rattle.std.proofs.lemmas.Option.{slice_get-map}
 use Rattle.std.proofs.lemmas.Bool.{cases_lt}
 use Rattle.std.proofs.lemmas.List.Elements.{All-head}
 use Rattle.dl_closed.proofs.Histories.{all_at}
@@ -10,91 +11,100 @@ use Rattle.dl_io.specs.Taken.{Taken}
 use Rattle.dl_history.specs.Histories.{Seen}
 use Rattle.dl_ir.specs.declared.answers.Refusal.{Refusal}
 use Rattle.dl_ir.specs.declared.modules.Module.{Module}
-use Rattle.dl_ir.specs.declared.calls.Call.{Call}
-use Rattle.dl_grammar.specs.declared.tree.Tree.{Tree}
 use Rattle.dl_command.specs.declared.status.Status.{Status}
 use Rattle.dl_command.specs.declared.status.Status.TheVariants as statuses
-use Rattle.dl_command.specs.Causes.{NoCalls, Refuses}
+use Rattle.dl_command.specs.declared.loading.Input.{Input}
+use Rattle.dl_command.specs.Causes.{NoFile, Refuses}
 use Rattle.dl_command.specs.Promise.{Ends, Prints}
-use Rattle.dl_command.specs.Texts.{AreFiles, Spells}
-use Rattle.dl_command.specs.Told.{TellsCalls, RefusesCalls, CallsFor, EndsWith, EndsAsTold, IsInOrder}
+use Rattle.dl_command.specs.Texts.{AreFiles, Spells, Behind, behind_of, nothing_behind}
+use Rattle.dl_command.specs.Told.{TellsFile, RefusesFile, CallsFor, EndsWith, EndsAsTold, IsInOrder}
+use Rattle.dl_command.specs.Wanted.{Wanted, wanted, numbers_of, paths_of}
 use Rattle.dl_command.specs.Words.{Text, Task}
-use Rattle.dl_command.proofs.ToldLemmas.{Untaken, module_untaken, calls_untaken, module_refused, calls_refused, module_not_taken, calls_not_taken, told_source, file_at, get_take}
+use Rattle.dl_command.proofs.ToldLemmas.{Untaken, module_untaken, file_untaken, module_refused, file_refused, module_not_taken, file_not_taken, told_source, file_at, get_take}
 
--- a file up to this one could not be read, or there was no memory
-before_it : {file before : ℕ} {path : Text} {old new : Source} {answer status : Status} → before ≤ file → Untaken before path old new status → EndsWith file answer status
-before_it {before = before} within (Untaken.failed is fails) = EndsWith.unread before within is
-before_it within (Untaken.memory is) = EndsWith.no_memory is
+-- a file up to the one at this place could not be read, or there was no memory
+before_it : {numbers : List ℕ} {place before number : ℕ} {path : Text} {old new : Source} {answer status : Status} → before ≤ place → slice_get numbers before ≡ Some number
+    → Untaken number path old new status → EndsWith numbers place answer status
+before_it {before = before} {number = number} within there (Untaken.failed is fails) = EndsWith.unread before number within there is
+before_it within there (Untaken.memory is) = EndsWith.no_memory is
 
 -- the file that stopped the call, and the one that calls for a refusal
-record Stopped (source : Module) (old new : Source) (rest : List Text) (stop : ℕ) (status : Status) : Type 0 where
-  before : List (List Call)
-  path : Text
-  are : AreFiles source old (take stop rest) before
-  is_path : slice_get rest stop ≡ Some path
-  cause : NoCalls source (stop + 1) path old new status
+record Stopped (source : Module) (old new : Source) (files : List Wanted) (stop : ℕ) (status : Status) : Type 0 where
+  before : Behind
+  file : Wanted
+  are : AreFiles source old (take stop files) nothing_behind before
+  is_file : slice_get files stop ≡ Some file
+  cause : NoFile source file old new status
 
-record Called (source : Module) (files : Source) (rest : List Text) (at : ℕ) (answer : Status) : Type 0 where
-  path : Text
-  tells : All (TellsCalls source files) (take at rest)
-  is_path : slice_get rest at ≡ Some path
-  refused : RefusesCalls source files (at + 1) path answer
+record Called (source : Module) (old : Source) (files : List Wanted) (at : ℕ) (answer : Status) : Type 0 where
+  file : Wanted
+  tells : All (TellsFile source old) (take at files)
+  is_file : slice_get files at ≡ Some file
+  refused : RefusesFile source old file answer
 
-earlier : {source : Module} {old new : Source} {rest : List Text} {at stop : ℕ} {answer status : Status} → stop < at → Called source old rest at answer →
-    Stopped source old new rest stop status → EndsWith (at + 1) answer status
-earlier {source = source} {old = old} {rest = rest} {at = at} {stop = stop} below called stopped =
-    let tells = all_at (TellsCalls source old) (take at rest) stop stopped.path called.tells (get_take rest at stop stopped.path below stopped.is_path) in
-    before_it (omega arith) (calls_untaken (omega arith) tells stopped.cause)
+-- the numbers of files behind the module
+abbrev numbers : List Wanted → List ℕ
+numbers files = 0 ∷ map (λ (file : Wanted). file.number) files
 
-same_place : {source : Module} {old new : Source} {rest : List Text} {at stop : ℕ} {answer status : Status} → stop ≡ at → Called source old rest at answer →
-    Stopped source old new rest stop status → EndsWith (at + 1) answer status
-same_place {source = source} {old = old} {new = new} {rest = rest} {at = at} {stop = stop} {answer = answer} {status = status} same called stopped =
-    let stopped_path : slice_get rest at ≡ Some stopped.path = subst (λ n. slice_get rest n ≡ Some stopped.path) same stopped.is_path in
-    let called_path = called.is_path in
-    let one : stopped.path ≡ called.path = cc in
-    let cause : NoCalls source (at + 1) stopped.path old new status = subst (λ n. NoCalls source (n + 1) stopped.path old new status) same stopped.cause in
-    calls_refused called.refused (subst (λ p. NoCalls source (at + 1) p old new status) one cause)
+number_at : (files : List Wanted) (at : ℕ) (file : Wanted) → slice_get files at ≡ Some file → slice_get (numbers files) (suc at) ≡ Some file.number
+number_at files at file is = slice_get-map (λ (f : Wanted). f.number) files at ∙ ap (option_map (λ (f : Wanted). f.number)) is
 
-later : {source : Module} {old new : Source} {rest : List Text} {at stop : ℕ} {answer status : Status} → at < stop → Called source old rest at answer →
-    Stopped source old new rest stop status → EndsWith (at + 1) answer status
-later {source = source} {old = old} {rest = rest} {at = at} {stop = stop} below called stopped =
-    let found = file_at source old (take stop rest) stopped.before at called.path stopped.are (get_take rest stop at called.path below called.is_path) in
-    calls_not_taken (omega arith) called.refused found.file
+earlier : {source : Module} {old new : Source} {files : List Wanted} {at stop : ℕ} {answer status : Status} → stop < at → Called source old files at answer →
+    Stopped source old new files stop status → EndsWith (numbers files) (at + 1) answer status
+earlier {source = source} {old = old} {files = files} {at = at} {stop = stop} below called stopped =
+    let tells = all_at (TellsFile source old) (take at files) stop stopped.file called.tells (get_take files at stop stopped.file below stopped.is_file) in
+    before_it {before = suc stop} (omega (arith, below)) (number_at files stop stopped.file stopped.is_file) (file_untaken tells stopped.cause)
 
-refused_at : {source : Module} {old new : Source} {rest : List Text} {at stop : ℕ} {answer status : Status} → Called source old rest at answer →
-    Stopped source old new rest stop status → EndsWith (at + 1) answer status
+same_place : {source : Module} {old new : Source} {files : List Wanted} {at stop : ℕ} {answer status : Status} → stop ≡ at → Called source old files at answer →
+    Stopped source old new files stop status → EndsWith (numbers files) (at + 1) answer status
+same_place {source = source} {old = old} {new = new} {files = files} {at = at} {stop = stop} {answer = answer} {status = status} same called stopped =
+    let stopped_file : slice_get files at ≡ Some stopped.file = subst (λ n. slice_get files n ≡ Some stopped.file) same stopped.is_file in
+    let called_file = called.is_file in
+    let one : stopped.file ≡ called.file = cc in
+    let place : suc at ≡ at + 1 = omega arith in
+    let here : slice_get (numbers files) (at + 1) ≡ Some called.file.number = subst (λ n. slice_get (numbers files) n ≡ Some called.file.number) place (number_at files at called.file called.is_file) in
+    file_refused here called.refused (subst (λ f. NoFile source f old new status) one stopped.cause)
+
+later : {P : Type 0} {source : Module} {old new : Source} {files : List Wanted} {at stop : ℕ} {answer status : Status} → at < stop → Called source old files at answer →
+    Stopped source old new files stop status → P
+later {source = source} {old = old} {files = files} {at = at} {stop = stop} below called stopped =
+    let found = file_at source old (take stop files) nothing_behind stopped.before at called.file stopped.are (get_take files stop at called.file below called.is_file) in
+    file_not_taken called.refused found.is
+
+refused_at : {source : Module} {old new : Source} {files : List Wanted} {at stop : ℕ} {answer status : Status} → Called source old files at answer →
+    Stopped source old new files stop status → EndsWith (numbers files) (at + 1) answer status
 refused_at {at = at} {stop = stop} called stopped = elim (cases_lt stop at) [
   | inl below ↦ earlier below called stopped
   | inr past ↦ elim (cases_lt at stop) [
     | inl above ↦ later above called stopped
-    | inr not_above ↦ same_place (omega arith) called stopped
+    | inr not_above ↦ same_place (omega (arith, past, not_above)) called stopped
   ]
 ]
 
 -- a call that was stopped ends as what is told calls for
 stopped_ends : {task : Task} {old new : Source} {status : Status} → Refuses task old new status → EndsAsTold old task status
-stopped_ends {old = old} {status = status} (Refuses.no_memory is within) file answer calls = EndsWith.no_memory is
-stopped_ends {status = status} (Refuses.no_module cause) file answer (CallsFor.source_file is refused) =
-    subst (λ f. EndsWith f answer status) (sym is) (module_refused refused cause)
-stopped_ends (Refuses.no_module cause) file answer (CallsFor.calls_file source at path is tells before is_path refused) =
-    before_it (omega arith) (module_untaken tells cause)
-stopped_ends (Refuses.no_calls tree source before at path source_file files is_path cause) file answer (CallsFor.source_file is refused) =
+stopped_ends {old = old} {status = status} (Refuses.no_memory is within) place answer calls = EndsWith.no_memory is
+stopped_ends {task = task} {status = status} (Refuses.no_module cause) place answer (CallsFor.source_file is refused) =
+    subst (λ p. EndsWith (numbers_of task) p answer status) (sym is) (module_refused refl refused cause)
+stopped_ends (Refuses.no_module cause) place answer (CallsFor.wanted_file source at file is tells before is_file refused) =
+    before_it {before = 0} {number = 0} (omega arith) refl (module_untaken tells cause)
+stopped_ends (Refuses.no_file tree source before at file source_file files is_file cause) place answer (CallsFor.source_file is refused) =
     module_not_taken refused source_file
-stopped_ends {task = task} {old = old} {new = new} {status = status} (Refuses.no_calls tree found before stop stopped source_file files is_stopped cause) file answer (CallsFor.calls_file source at path is tells told is_path refused) =
+stopped_ends {task = task} {old = old} {new = new} {status = status} (Refuses.no_file tree found before stop stopped source_file files is_stopped cause) place answer (CallsFor.wanted_file source at file is tells told is_file refused) =
     let same : source ≡ found = told_source tells source_file in
-    let stops : Stopped source old new task.rest stop status = subst (λ m. Stopped m old new task.rest stop status) (sym same)
-    (record { before = before; path = stopped; are = files; is_path = rw add-one at is_stopped; cause = cause }) in
-    let called : Called source old task.rest at answer = record { path = path; tells = told; is_path = is_path; refused = subst (λ f. RefusesCalls source old f path answer) is refused } in
-    subst (λ f. EndsWith f answer status) (sym is) (refused_at called stops)
+    let stops : Stopped source old new (wanted task) stop status = subst (λ m. Stopped m old new (wanted task) stop status) (sym same)
+    (record { before = before; file = stopped; are = files; is_file = is_stopped; cause = cause }) in
+    let called : Called source old (wanted task) at answer = record { file = file; tells = told; is_file = is_file; refused = refused } in
+    subst (λ p. EndsWith (numbers_of task) p answer status) (sym is) (refused_at called stops)
 
 -- where the files spell what they should, nothing calls for a refusal
-none_called : {P : Type 0} {task : Task} {old : Source} {tree : Tree} {source : Module} {all : List (List Call)} {file : ℕ} {answer : Status} → Spells old task tree source all →
-    CallsFor old task file answer → P
+none_called : {P : Type 0} {task : Task} {old : Source} {input : Input} {place : ℕ} {answer : Status} → Spells old task input →
+    CallsFor old task place answer → P
 none_called spells (CallsFor.source_file is refused) = module_not_taken refused spells.source_file
-none_called {task = task} {old = old} {source = found} {all = all} {file = file} {answer = answer} spells (CallsFor.calls_file source at path is tells told is_path refused) =
-    let same : source ≡ found = told_source tells spells.source_file in
-    let file_found = file_at found old task.rest all at path spells.call_files is_path in
-    calls_not_taken (omega (arith, is)) (subst (λ m. RefusesCalls m old file path answer) same refused) file_found.file
+none_called {task = task} {old = old} {input = input} {answer = answer} spells (CallsFor.wanted_file source at file is tells told is_file refused) =
+    let same : source ≡ input.source = told_source tells spells.source_file in
+    let found = file_at input.source old (wanted task) nothing_behind (behind_of input) at file spells.behind is_file in
+    file_not_taken (subst (λ m. RefusesFile m old file answer) same refused) found.is
 
 -- at a sound path no file fails
 no_fault : {file : ℕ} {path : Text} {old new : Source} {status : Status} → Untaken file path old new status → Contains old.sound_paths path → status ≡ statuses.Memory
@@ -105,13 +115,13 @@ no_fault (Untaken.memory is) sound = is
 stopped_in_order : {task : Task} {old new : Source} {status : Status} → Refuses task old new status → IsInOrder old task → status ≡ statuses.Memory
 stopped_in_order (Refuses.no_memory is within) order = is
 stopped_in_order {task = task} {old = old} (Refuses.no_module cause) order =
-    no_fault (module_untaken order.source_file cause) (All-head (Contains old.sound_paths) task.first task.rest order.sound)
-stopped_in_order {task = task} {old = old} {status = status} (Refuses.no_calls tree found before stop path source_file files is_path cause) order =
+    no_fault (module_untaken order.source_file cause) (All-head (Contains old.sound_paths) task.first (map (λ (file : Wanted). file.path) (wanted task)) order.sound)
+stopped_in_order {task = task} {old = old} {status = status} (Refuses.no_file tree found before stop file source_file files is_file cause) order =
     let same : order.source ≡ found = told_source order.source_file source_file in
-    let stopped : slice_get task.rest stop ≡ Some path = rw add-one at is_path in
-    let tells : TellsCalls found old path = subst (λ m. TellsCalls m old path) same (all_at (TellsCalls order.source old) task.rest stop path order.call_files stopped) in
-    let sound = all_at (Contains old.sound_paths) (task.first ∷ task.rest) (suc stop) path order.sound stopped in
-    no_fault (calls_untaken (omega arith) tells cause) sound
+    let tells : TellsFile found old file = subst (λ m. TellsFile m old file) same (all_at (TellsFile order.source old) (wanted task) stop file order.wanted_files is_file) in
+    let path : slice_get (map (λ (f : Wanted). f.path) (wanted task)) stop ≡ Some file.path = slice_get-map (λ (f : Wanted). f.path) (wanted task) stop ∙ ap (option_map (λ (f : Wanted). f.path)) is_file in
+    let sound = all_at (Contains old.sound_paths) (paths_of task) (suc stop) file.path order.sound path in
+    no_fault (file_untaken tells cause) sound
 
 -- what was printed was printed whole, where the sink did not fail
 printed_whole : (status : Status) (text : Text) (before after : Taken) → Prints status text before after → (Rose before.faults after.faults → ⊥) →
@@ -135,7 +145,7 @@ module _ {given : Option Task} {old new : Source} {before after : Taken} {status
   ends_as_told (Ends.ran text ran within prints) task is_task file answer calls =
       let is_found = ran.is_task in
       let same : ran.task ≡ task = cc in
-      none_called (subst (λ t. Spells old t ran.tree ran.source ran.all) same ran.spells) calls
+      none_called (subst (λ t. Spells old t ran.input) same ran.spells) calls
 
   pub ends_complete : Ends given old new before after status history refusals → (task : Task) → given ≡ Some task → IsInOrder old task →
       (Rose before.faults after.faults → ⊥) → (status ≡ statuses.Done) ⊎ (status ≡ statuses.Memory)

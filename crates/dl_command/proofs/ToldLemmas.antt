@@ -1,23 +1,19 @@
 -- What is told of a file, and what a call finds there.
 use Rattle.std.proofs.Common.{◌≡◌, ℕ, zero, suc, ◌<◌, ◌≤◌, List, [], ◌∷◌, Option, Some, IfSome, length, take, refl, sym, ◌∙◌, ap, subst, arith}
 use Rattle.std.specs.Prelude.{slice_get}
-use Rattle.std.proofs.lemmas.Bool.{ne_eqb}
 use Rattle.dl_io.specs.Source.{Source, Tells}
 use Rattle.dl_ir.specs.declared.modules.Module.{Module}
-use Rattle.dl_ir.specs.declared.calls.Call.{Call}
 use Rattle.dl_grammar.specs.declared.tree.Tree.{Tree}
+use Rattle.dl_command.specs.declared.loading.Content.{Content}
 use Rattle.dl_command.specs.declared.status.Status.{Status}
 use Rattle.dl_command.specs.declared.status.Status.TheVariants as statuses
-use Rattle.dl_command.specs.Causes.{NoModule, NoCalls}
+use Rattle.dl_command.specs.Causes.{NoModule, NoFile}
 use Rattle.dl_command.specs.Reading.{ReadCause, Fails, IsTooLong}
-use Rattle.dl_command.specs.Texts.{IsFile, AreFiles, IsModuleFile, IsModuleText, IsModuleFault, IsOpsFault}
-use Rattle.dl_command.specs.Told.{IsTold, TellsModule, TellsCalls, RefusesModule, RefusesCalls, EndsWith}
+use Rattle.dl_command.specs.Texts.{IsFile, AreFiles, IsModuleFile, IsModuleText, IsModuleFault, IsFaultOf, Behind, with_content}
+use Rattle.dl_command.specs.Told.{IsTold, TellsModule, TellsFile, RefusesModule, RefusesFile, EndsWith}
+use Rattle.dl_command.specs.Wanted.{Wanted}
 use Rattle.dl_command.specs.Words.{Text, limit_of}
-use Rattle.dl_command.proofs.FaultLemmas.{one_source, module_or_fault, one_module_fault, one_ops_fault, calls_or_fault}
-
--- the limit of each file behind the module
-later_limit : (file : ℕ) → 0 < file → limit_of file ≡ limit_of 1
-later_limit file more = rw (ne_eqb file 0 (λ e. omega (arith, e)))
+use Rattle.dl_command.proofs.FaultLemmas.{one_source, module_or_fault, one_module_fault, one_fault, says_or_fault}
 
 -- what is told is what is found
 same_text : (told : Option Text) (text found : Text) → told ≡ Some text → Tells told found → text ≡ found
@@ -51,58 +47,59 @@ pub data Untaken (file : ℕ) (path : Text) (old new : Source) (status : Status)
   failed : status ≡ statuses.ReadFault file → Fails file path old new → Untaken file path old new status
   memory : status ≡ statuses.Memory → Untaken file path old new status
 
-module _ {path : Text} {old new : Source} {status : Status} where
-  read_told : {file : ℕ} {text : Text} → IsTold old file path text → Unread file path old new status → Untaken file path old new status
+module _ {old new : Source} {status : Status} where
+  read_told : {file : ℕ} {path text : Text} → IsTold old file path text → Unread file path old new status → Untaken file path old new status
   read_told told (Unread.failed is fails) = Untaken.failed is fails
   read_told {file = file} {text = text} told (Unread.beyond is long) = too_much text text (limit_of file) refl told.short (long_text _ text (limit_of file) told.told long.long)
   read_told told (Unread.memory is) = Untaken.memory is
 
-  pub module_untaken : {source : Module} → TellsModule old path source → NoModule path old new status → Untaken 0 path old new status
-  module_untaken tells (NoModule.unread cause) = read_told tells.is_told (unread status 0 path old new cause)
+  pub module_untaken : {path : Text} {source : Module} → TellsModule old path source → NoModule path old new status → Untaken 0 path old new status
+  module_untaken {path = path} tells (NoModule.unread cause) = read_told tells.is_told (unread status 0 path old new cause)
   module_untaken tells (NoModule.no_memory is within) = Untaken.memory is
   module_untaken {source = source} tells (NoModule.at_fault line why text is told short is_fault within) =
       let same = same_text _ tells.text text tells.is_told.told told in
       module_or_fault text source line why (subst (λ t. IsModuleText t source) same tells.spells) is_fault
 
-  pub calls_untaken : {source : Module} {file : ℕ} → 0 < file → TellsCalls source old path → NoCalls source file path old new status → Untaken file path old new status
-  calls_untaken {file = file} more tells (NoCalls.unread cause) =
-      read_told (record { told = tells.is_told.told; short = rw (later_limit file more) tells.is_told.short }) (unread status file path old new cause)
-  calls_untaken more tells (NoCalls.no_memory is within) = Untaken.memory is
-  calls_untaken {source = source} more tells (NoCalls.at_fault line why text is told short is_fault within) =
+  pub file_untaken : {source : Module} {file : Wanted} → TellsFile source old file → NoFile source file old new status → Untaken file.number file.path old new status
+  file_untaken {file = file} tells (NoFile.unread cause) = read_told tells.is_told (unread status file.number file.path old new cause)
+  file_untaken tells (NoFile.no_memory is within) = Untaken.memory is
+  file_untaken {source = source} {file = file} tells (NoFile.at_fault text told short is_fault within) =
       let same = same_text _ tells.text text tells.is_told.told told in
-      calls_or_fault source text tells.calls line why (rw (← same) tells.spells) is_fault
+      says_or_fault source file.number file.form text tells.content status (rw (← same) tells.says) is_fault
 
   -- a refusal that is called for is answered
-  read_refused : {file : ℕ} {answer : Status} → Unread file path old new status → (IsTooLong file path (limit_of file) old new → statuses.TooLong file ≡ answer) → EndsWith file answer status
-  read_refused {file = file} (Unread.failed is fails) called = EndsWith.unread file (omega arith) is
-  read_refused (Unread.beyond is long) called = EndsWith.answered (is ∙ called long)
-  read_refused (Unread.memory is) called = EndsWith.no_memory is
+  read_refused : {file : ℕ} {path : Text} {numbers : List ℕ} {place : ℕ} {answer : Status} → slice_get numbers place ≡ Some file → Unread file path old new status
+      → (IsTooLong file path (limit_of file) old new → statuses.TooLong file ≡ answer) → EndsWith numbers place answer status
+  read_refused {file = file} {place = place} here (Unread.failed is fails) called = EndsWith.unread place file (omega arith) here is
+  read_refused here (Unread.beyond is long) called = EndsWith.answered (is ∙ called long)
+  read_refused here (Unread.memory is) called = EndsWith.no_memory is
 
-  pub module_refused : {answer : Status} → RefusesModule old path answer → NoModule path old new status → EndsWith 0 answer status
-  module_refused refused (NoModule.no_memory is within) = EndsWith.no_memory is
-  module_refused (RefusesModule.too_long text told long is_answer) (NoModule.unread cause) =
-      read_refused (unread status 0 path old new cause) (λ found. sym is_answer)
-  module_refused (RefusesModule.at_fault text line why told is_fault is_answer) (NoModule.unread cause) =
-      read_refused (unread status 0 path old new cause) (λ found.
+  pub module_refused : {path : Text} {numbers : List ℕ} {answer : Status} → slice_get numbers 0 ≡ Some 0 → RefusesModule old path answer → NoModule path old new status → EndsWith numbers 0 answer status
+  module_refused here refused (NoModule.no_memory is within) = EndsWith.no_memory is
+  module_refused {path = path} here (RefusesModule.too_long text told long is_answer) (NoModule.unread cause) =
+      read_refused here (unread status 0 path old new cause) (λ found. sym is_answer)
+  module_refused {path = path} here (RefusesModule.at_fault text line why told is_fault is_answer) (NoModule.unread cause) =
+      read_refused here (unread status 0 path old new cause) (λ found.
       too_much text text (limit_of 0) refl told.short (long_text _ text (limit_of 0) told.told found.long))
-  module_refused (RefusesModule.too_long text told long is_answer) (NoModule.at_fault line why found is tells short is_fault within) =
+  module_refused here (RefusesModule.too_long text told long is_answer) (NoModule.at_fault line why found is tells short is_fault within) =
       too_much found text (limit_of 0) (sym (same_text _ text found told tells)) short long
-  module_refused (RefusesModule.at_fault text line why told is_fault is_answer) (NoModule.at_fault other otherwise found is tells short found_fault within) =
+  module_refused here (RefusesModule.at_fault text line why told is_fault is_answer) (NoModule.at_fault other otherwise found is tells short found_fault within) =
       let same = same_text _ text found told.told tells in
       EndsWith.answered (is ∙ one_module_fault found other line otherwise why found_fault (subst (λ t. IsModuleFault t line why) same is_fault) ∙ sym is_answer)
 
-  pub calls_refused : {source : Module} {file : ℕ} {answer : Status} → RefusesCalls source old file path answer → NoCalls source file path old new status → EndsWith file answer status
-  calls_refused refused (NoCalls.no_memory is within) = EndsWith.no_memory is
-  calls_refused {file = file} (RefusesCalls.too_long text told long is_answer) (NoCalls.unread cause) =
-      read_refused (unread status file path old new cause) (λ found. sym is_answer)
-  calls_refused {file = file} (RefusesCalls.at_fault text line why told is_fault is_answer) (NoCalls.unread cause) =
-      read_refused (unread status file path old new cause) (λ found.
-      too_much text text (limit_of file) refl told.short (long_text _ text (limit_of file) told.told found.long))
-  calls_refused {file = file} (RefusesCalls.too_long text told long is_answer) (NoCalls.at_fault line why found is tells short is_fault within) =
-      too_much found text (limit_of file) (sym (same_text _ text found told tells)) short long
-  calls_refused {source = source} {file = file} (RefusesCalls.at_fault text line why told is_fault is_answer) (NoCalls.at_fault other otherwise found is tells short found_fault within) =
+  pub file_refused : {source : Module} {file : Wanted} {numbers : List ℕ} {place : ℕ} {answer : Status} → slice_get numbers place ≡ Some file.number → RefusesFile source old file answer → NoFile source file old new status
+      → EndsWith numbers place answer status
+  file_refused here refused (NoFile.no_memory is within) = EndsWith.no_memory is
+  file_refused {file = file} here (RefusesFile.too_long text told long is_answer) (NoFile.unread cause) =
+      read_refused here (unread status file.number file.path old new cause) (λ found. sym is_answer)
+  file_refused {file = file} here (RefusesFile.at_fault text told is_fault) (NoFile.unread cause) =
+      read_refused here (unread status file.number file.path old new cause) (λ found.
+      too_much text text (limit_of file.number) refl told.short (long_text _ text (limit_of file.number) told.told found.long))
+  file_refused {file = file} here (RefusesFile.too_long text told long is_answer) (NoFile.at_fault found tells short is_fault within) =
+      too_much found text (limit_of file.number) (sym (same_text _ text found told tells)) short long
+  file_refused {source = source} {file = file} {answer = answer} here (RefusesFile.at_fault text told is_fault) (NoFile.at_fault found tells short found_fault within) =
       let same = same_text _ text found told.told tells in
-      EndsWith.answered (is ∙ one_ops_fault source found file other line otherwise why found_fault (subst (λ t. IsOpsFault source t line why) same is_fault) ∙ sym is_answer)
+      EndsWith.answered (one_fault source file.number file.form found status answer found_fault (subst (λ t. IsFaultOf source file.number file.form t answer) same is_fault))
 
 -- the text of a module's file
 module_text : {files : Source} {path : Text} {tree : Tree} {source : Module} (file : IsModuleFile files path tree source) → IsModuleText file.text source
@@ -117,13 +114,13 @@ module_not_taken {source = source} (RefusesModule.at_fault text line why told is
     let same = same_text _ text file.text told.told file.told in
     module_or_fault file.text source line why (module_text file) (subst (λ t. IsModuleFault t line why) same is_fault)
 
-pub calls_not_taken : {P : Type 0} {files : Source} {path : Text} {source : Module} {file : ℕ} {answer : Status} {calls : List Call} → 0 < file →
-    RefusesCalls source files file path answer → IsFile source files path calls → P
-calls_not_taken {file = file} more (RefusesCalls.too_long text told long is_answer) found =
-    too_much found.text text (limit_of file) (sym (same_text _ text found.text told found.told)) (rw (later_limit file more) found.short) long
-calls_not_taken {source = source} {calls = calls} more (RefusesCalls.at_fault text line why told is_fault is_answer) found =
+pub file_not_taken : {P : Type 0} {files : Source} {source : Module} {file : Wanted} {answer : Status} {content : Content} →
+    RefusesFile source files file answer → IsFile source files file content → P
+file_not_taken {file = file} (RefusesFile.too_long text told long is_answer) found =
+    too_much found.text text (limit_of file.number) (sym (same_text _ text found.text told found.told)) found.short long
+file_not_taken {source = source} {file = file} {answer = answer} {content = content} (RefusesFile.at_fault text told is_fault) found =
     let same = same_text _ text found.text told.told found.told in
-    calls_or_fault source found.text calls line why found.spells (subst (λ t. IsOpsFault source t line why) same is_fault)
+    says_or_fault source file.number file.form found.text content answer found.says (subst (λ t. IsFaultOf source file.number file.form t answer) same is_fault)
 
 -- the module that is told is the one that is found
 pub told_source : {files : Source} {path : Text} {tree : Tree} {a b : Module} → TellsModule files path a → IsModuleFile files path tree b → a ≡ b
@@ -132,16 +129,15 @@ told_source {a = a} {b = b} tells file =
     one_source file.text a b (subst (λ t. IsModuleText t a) same tells.spells) (module_text file)
 
 -- the file at a place
-pub record Found (source : Module) (files : Source) (path : Text) : Type 0 where
-  pub calls : List Call
-  pub file : IsFile source files path calls
+pub record Found (source : Module) (files : Source) (file : Wanted) : Type 0 where
+  pub content : Content
+  pub is : IsFile source files file content
 
-pub file_at : (source : Module) (files : Source) (paths : List Text) (all : List (List Call)) (at : ℕ) (path : Text) → AreFiles source files paths all → slice_get paths at ≡ Some path → Found source files path
-file_at source files [] all at path are is = cc
-file_at source files (p ∷ paths) [] at path are is = absurd are
-file_at source files (p ∷ paths) (calls ∷ all) zero path are is =
-    let same : p ≡ path = cc in record { calls = calls; file = subst (λ q. IsFile source files q calls) same are.0 }
-file_at source files (p ∷ paths) (calls ∷ all) (suc at) path are is = file_at source files paths all at path are.1 is
+pub file_at : (source : Module) (files : Source) (wanted : List Wanted) (before after : Behind) (at : ℕ) (file : Wanted) → AreFiles source files wanted before after → slice_get wanted at ≡ Some file → Found source files file
+file_at source files [] before after at file are is = cc
+file_at source files (first ∷ wanted) before after zero file are is =
+    let same : first ≡ file = cc in record { content = are.0; is = subst (λ f. IsFile source files f are.0) same are.1 }
+file_at source files (first ∷ wanted) before after (suc at) file are is = file_at source files wanted (with_content before are.0) after at file are.2 is
 
 -- what stands at a place below n stands among the first n
 pub get_take : {A : Type 0} (xs : List A) (n at : ℕ) (x : A) → at < n → slice_get xs at ≡ Some x → slice_get (take n xs) at ≡ Some x

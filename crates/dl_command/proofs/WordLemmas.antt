@@ -34,7 +34,7 @@ use Rattle.clap.proofs.ValueTestLemmas.{accepts-Accepts, Accepts-accepts}
 use Rattle.clap.proofs.WalkLemmas.{both, one_text-rows}
 use Rattle.clap.specs.declared.error.Error.{Error}
 use Rattle.clap.specs.declared.error.kind.ErrorKind.TheVariants as kinds
-use Rattle.dl_command.specs.Words.{Line, Task, Text, command_line, command_rule, first_rule, line_of_matches, number_of, places_parser, places_rule, rest_rule, rules, task_by, task_of, task_of_line, task_of_matches, task_of_words}
+use Rattle.dl_command.specs.Words.{Line, MayHave, Task, Text, command_line, command_rule, first_rule, line_of_matches, number_of, places_parser, places_rule, rest_rule, rules, task_by, task_of, task_of_line, task_of_matches, task_of_words}
 use Rattle.dl_command.specs.declared.words.Command.{Command as Held}
 use Rattle.dl_command.specs.declared.words.CommandRow.{CommandRow}
 use Rattle.dl_command.specs.declared.words.Verb.TheVariants as verbs
@@ -284,63 +284,42 @@ by_row line row task given = go (nat_lt (length line.rest) row.fewest) refl (nat
         let is : made line row ≡ task = ap (λ o. unwrap_or o (made line row)) same in
         subst (IsBy line row) is (ltb-false _ _ few, ltb-false _ _ many, refl, refl)
 
--- what the table asks for of the number of words REST
-pub record Asks (task : Task) : Type 0 where
-  pub one : task.verb ≡ verbs.Serial → length task.rest ≡ 1
-  pub some : task.verb ≡ verbs.Run → 1 ≤ length task.rest
-  pub few : length task.rest ≤ 64
+-- the table gives as many words REST as its row asks for
+abbrev IsAsked : Task → Type 0
+IsAsked task = MayHave task.verb (length task.rest)
 
-table_asks : (line : Line) (task : Task) → task_of_line line ≡ Some task
-    → Asks task × (task.places ≡ line.places)
+asked : (line : Line) (row : CommandRow) (task : Task) → task_by line row ≡ Some task
+    → (row.fewest ≤ length task.rest → length task.rest ≤ row.most → MayHave row.verb (length task.rest)) → IsAsked task × (task.places ≡ line.places)
+asked line row task by may =
+    let asks = by_row line row task by in
+    (subst (λ verb. MayHave verb (length task.rest)) (sym asks.2) (may asks.0 asks.1), asks.3)
+
+table_asks : (line : Line) (task : Task) → task_of_line line ≡ Some task → IsAsked task × (task.places ≡ line.places)
 table_asks line task given =
-    go (bytes_eq (codes "serial") line.command) refl (bytes_eq (codes "run") line.command) refl (bytes_eq (codes "show") line.command) refl
+    go (bytes_eq (codes "serial") line.command) refl (bytes_eq (codes "run") line.command) refl (bytes_eq (codes "step") line.command) refl (bytes_eq (codes "show") line.command) refl
     (bytes_eq (codes "work") line.command) refl
   where
-    go : (a : Bool) → bytes_eq (codes "serial") line.command ≡ a → (r : Bool) → bytes_eq (codes "run") line.command ≡ r → (b : Bool) → bytes_eq (codes "show") line.command ≡ b
-        → (d : Bool) → bytes_eq (codes "work") line.command ≡ d → Asks task × (task.places ≡ line.places)
-    go true serial r run b show d work =
-        let by : task_by line (record { verb = verbs.Serial; fewest = 1; most = 1 }) ≡ Some task = rw serial at given in
-        let asks = by_row line _ task by in
-        let fewest = asks.0 in
-        let most = asks.1 in
-        (record { one = λ e. omega (arith, fewest, most); some = λ e. omega (arith, fewest); few = omega (arith, most) }, asks.3)
-    go false serial true run b show d work =
-        let by : task_by line (record { verb = verbs.Run; fewest = 1; most = 64 }) ≡ Some task = rw (serial, run) at given in
-        let asks = by_row line _ task by in
-        let fewest = asks.0 in
-        let most = asks.1 in
-        (record { one = λ e. let bad : verbs.Run ≡ verbs.Serial = sym asks.2 ∙ e in absurd (cc); some = λ e. omega (arith, fewest); few = omega (arith, most) }, asks.3)
-    go false serial false run true show d work =
-        let by : task_by line (record { verb = verbs.Show; fewest = 0; most = 0 }) ≡ Some task = rw (serial, run, show) at given in
-        let asks = by_row line _ task by in
-        let most = asks.1 in (
-          record {
-            one = λ e. let bad : verbs.Show ≡ verbs.Serial = sym asks.2 ∙ e in absurd (cc);
-            some = λ e. let bad : verbs.Show ≡ verbs.Run = sym asks.2 ∙ e in absurd (cc);
-            few = omega (arith, most);
-          },
-          asks.3,
-        )
-    go false serial false run false show true work =
-        let by : task_by line (record { verb = verbs.Work; fewest = 2; most = 2 }) ≡ Some task = rw (serial, run, show, work) at given in
-        let asks = by_row line _ task by in
-        let most = asks.1 in (
-          record {
-            one = λ e. let bad : verbs.Work ≡ verbs.Serial = sym asks.2 ∙ e in absurd (cc);
-            some = λ e. let bad : verbs.Work ≡ verbs.Run = sym asks.2 ∙ e in absurd (cc);
-            few = omega (arith, most);
-          },
-          asks.3,
-        )
-    go false serial false run false show false work = let none : None ≡ Some task = rw (serial, run, show, work) at given in absurd (cc)
+    go : (a : Bool) → bytes_eq (codes "serial") line.command ≡ a → (r : Bool) → bytes_eq (codes "run") line.command ≡ r → (s : Bool) → bytes_eq (codes "step") line.command ≡ s
+        → (b : Bool) → bytes_eq (codes "show") line.command ≡ b → (d : Bool) → bytes_eq (codes "work") line.command ≡ d → IsAsked task × (task.places ≡ line.places)
+    go true serial r run s step b show d work =
+        asked line (record { verb = verbs.Serial; fewest = 1; most = 1 }) task (rw serial at given) (λ fewest most. omega (arith, fewest, most))
+    go false serial true run s step b show d work =
+        asked line (record { verb = verbs.Run; fewest = 1; most = 64 }) task (rw (serial, run) at given) (λ fewest most. (fewest, most))
+    go false serial false run true step b show d work =
+        asked line (record { verb = verbs.Step; fewest = 2; most = 65 }) task (rw (serial, run, step) at given) (λ fewest most. (fewest, most))
+    go false serial false run false step true show d work =
+        asked line (record { verb = verbs.Show; fewest = 0; most = 0 }) task (rw (serial, run, step, show) at given) (λ fewest most. omega (arith, most))
+    go false serial false run false step false show true work =
+        asked line (record { verb = verbs.Work; fewest = 2; most = 2 }) task (rw (serial, run, step, show, work) at given) (λ fewest most. omega (arith, fewest, most))
+    go false serial false run false step false show false work = let none : None ≡ Some task = rw (serial, run, step, show, work) at given in absurd (cc)
 
 -- what is asked of the command that the matches give
 pub command_asks : (rows : List Row) (task : Task) → task_of_matches rows ≡ Some task
-    → Asks task × (option_and_then number_of (one_of (codes "places") rows) ≡ Some task.places)
+    → IsAsked task × (option_and_then number_of (one_of (codes "places") rows) ≡ Some task.places)
 command_asks rows task given = go (line_of_matches rows) refl given
   where
     go : (o : Option Line) → line_of_matches rows ≡ o → option_and_then task_of_line o ≡ Some task
-        → Asks task × (option_and_then number_of (one_of (codes "places") rows) ≡ Some task.places)
+        → IsAsked task × (option_and_then number_of (one_of (codes "places") rows) ≡ Some task.places)
     go None e h = let none : None ≡ Some task = h in absurd (cc)
     go (Some line) e h =
         let asks = table_asks line task h in
@@ -352,20 +331,10 @@ module _ (result : Result Held WordsFault) where
   same_words a b same = IfOk-weaker result (λ command. b ≡ Some (task_of command)) (λ command. a ≡ Some (task_of command)) (λ command given. same ∙ given)
 
   module _ (rows : List Row) (ok : IfOk result (λ command. task_of_matches rows ≡ Some (task_of command))) where
-    pub given_one : IfOk result (λ command. command.verb ≡ verbs.Serial → length command.rest.items ≡ 1)
-    given_one = IfOk-weaker result (λ command. task_of_matches rows ≡ Some (task_of command)) (λ command. command.verb ≡ verbs.Serial → length command.rest.items ≡ 1)
+    pub given_rest : IfOk result (λ command. MayHave command.verb (length command.rest.items))
+    given_rest = IfOk-weaker result (λ command. task_of_matches rows ≡ Some (task_of command)) (λ command. MayHave command.verb (length command.rest.items))
         (λ command given. let asks = command_asks rows (task_of command) given in
-        λ e. sym (length-map command.rest.items (λ path. path.now)) ∙ asks.0.one e) ok
-
-    pub given_some : IfOk result (λ command. command.verb ≡ verbs.Run → 1 ≤ length command.rest.items)
-    given_some = IfOk-weaker result (λ command. task_of_matches rows ≡ Some (task_of command)) (λ command. command.verb ≡ verbs.Run → 1 ≤ length command.rest.items)
-        (λ command given. let asks = command_asks rows (task_of command) given in
-        λ e. subst (λ n. 1 ≤ n) (length-map command.rest.items (λ path. path.now)) (asks.0.some e)) ok
-
-    pub given_few : IfOk result (λ command. length command.rest.items ≤ 64)
-    given_few = IfOk-weaker result (λ command. task_of_matches rows ≡ Some (task_of command)) (λ command. length command.rest.items ≤ 64)
-        (λ command given. let asks = command_asks rows (task_of command) given in
-        subst (λ n. n ≤ 64) (length-map command.rest.items (λ path. path.now)) asks.0.few) ok
+        subst (λ n. MayHave command.verb n) (length-map command.rest.items (λ path. path.now)) asks.0) ok
 
     pub given_places : ((n : ℕ) → option_and_then number_of (one_of (codes "places") rows) ≡ Some n → (1 ≤ n) × (n ≤ 65536))
         → IfOk result (λ command. (1 ≤ command.places) × (command.places ≤ 65536))

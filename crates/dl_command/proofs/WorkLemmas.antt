@@ -134,6 +134,7 @@ still_wish_is words task verb is same = ap wish_of (still_is words task verb is 
     of_verb : (v : Verb) → task.verb ≡ v → wish_of (unless_run v task) ≡ option_and_then (wish_by v) (unless_run v task)
     of_verb verbs.Run e = refl
     of_verb verbs.Serial e = ap (λ (w : Verb). wish_by w task) e
+    of_verb verbs.Step e = ap (λ (w : Verb). wish_by w task) e
     of_verb verbs.Show e = ap (λ (w : Verb). wish_by w task) e
     of_verb verbs.Work e = ap (λ (w : Verb). wish_by w task) e
 

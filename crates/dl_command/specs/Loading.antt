@@ -1,23 +1,23 @@
 -- The statuses of faults, and why reading the files of a command stops.
-use Rattle.std.specs.Prelude.{◌≡◌, ℕ, ◌+◌, List, Some, slice_get, take}
+use Rattle.std.specs.Prelude.{◌≡◌, ℕ, List, Some, slice_get, take}
 use Rattle.dl_io.specs.Source.{Source}
 use Rattle.dl_ir.specs.declared.modules.Module.{Module}
-use Rattle.dl_ir.specs.declared.calls.Call.{Call}
-use Rattle.dl_syntax.specs.declared.calls.CallsFault.{CallsFault}
-use Rattle.dl_syntax.specs.declared.calls.CallsFault.TheVariants as faults
 use Rattle.dl_command.specs.declared.status.Status.{Status}
 use Rattle.dl_command.specs.declared.status.Status.TheVariants as statuses
 use Rattle.dl_command.specs.declared.status.ModuleWhy.{ModuleWhy}
 use Rattle.dl_command.specs.declared.status.ModuleWhy.TheVariants as modules
-use Rattle.dl_command.specs.declared.status.OpsWhy.{OpsWhy}
 use Rattle.dl_grammar.specs.declared.fault.SyntaxFault.{SyntaxFault}
 use Rattle.dl_grammar.specs.declared.fault.SyntaxFault.TheVariants as syntax
 use Rattle.dl_types.specs.declared.fault.TypeFault.{TypeFault}
 use Rattle.dl_types.specs.declared.fault.TypeFault.TheVariants as types
-use Rattle.dl_command.specs.Texts.{IsModuleFault, IsOpsFault, AreFiles, calls_fault}
-use Rattle.dl_command.specs.Causes.{NoCalls}
+use Rattle.dl_ir.specs.CallForms.{AreCallsOf}
+use Rattle.dl_command.specs.declared.loading.Content.{Content}
+use Rattle.dl_command.specs.declared.loading.Content.TheVariants as contents
+use Rattle.dl_command.specs.declared.wanted.Form.{Form}
+use Rattle.dl_command.specs.Texts.{IsModuleFault, IsFaultOf, AreFiles, Behind, nothing_behind}
+use Rattle.dl_command.specs.Causes.{NoFile}
 use Rattle.dl_command.specs.Reading.{IsWithin}
-use Rattle.dl_command.specs.Words.{Text}
+use Rattle.dl_command.specs.Wanted.{Wanted}
 
 -- the status that a fault of a module text is answered with
 abbrev pub syntax_status : SyntaxFault → Status
@@ -45,18 +45,18 @@ pub data ParseCause (text : List ℕ) (status : Status) : Type 0 where
   at_fault : (line : ℕ) (why : ModuleWhy) → status ≡ statuses.ModuleFault line why → IsModuleFault text line why → ParseCause text status
   no_memory : status ≡ statuses.Memory → ParseCause text status
 
--- the status that a fault of an operation file is answered with
-pub data CallsCause (file : ℕ) (fault : CallsFault) (status : Status) : Type 0 where
-  at_fault : (line : ℕ) (why : OpsWhy) → status ≡ statuses.OpsFault file line why → fault ≡ calls_fault line why → CallsCause file fault status
-  no_memory : status ≡ statuses.Memory → fault ≡ faults.Memory → CallsCause file fault status
+-- why a text was not read as one of this form: its first fault, or want of memory
+pub data TextCause (source : Module) (file : ℕ) (form : Form) (text : List ℕ) (status : Status) : Type 0 where
+  at_fault : IsFaultOf source file form text status → TextCause source file form text status
+  no_memory : status ≡ statuses.Memory → TextCause source file form text status
 
--- why a text was not read as an operation file: its first fault, or want of memory
-pub data OpsCause (source : Module) (text : List ℕ) (file : ℕ) (status : Status) : Type 0 where
-  at_fault : (line : ℕ) (why : OpsWhy) → status ≡ statuses.OpsFault file line why → IsOpsFault source text line why → OpsCause source text file status
-  no_memory : status ≡ statuses.Memory → OpsCause source text file status
+-- why one of these files was not taken, the ones before it being as they should be
+pub data StopsAt (source : Module) (wanted : List Wanted) (old new : Source) (status : Status) : Type 0 where
+  no_file : (before : Behind) (at : ℕ) (file : Wanted) → AreFiles source old (take at wanted) nothing_behind before → slice_get wanted at ≡ Some file
+      → NoFile source file old new status → StopsAt source wanted old new status
+  no_memory : status ≡ statuses.Memory → IsWithin new → StopsAt source wanted old new status
 
--- why one of the operation files at these paths was not taken, the ones before it being as they should be
-pub data StopsAt (source : Module) (paths : List Text) (old new : Source) (status : Status) : Type 0 where
-  no_calls : (before : List (List Call)) (at : ℕ) (path : Text) → AreFiles source old (take at paths) before → slice_get paths at ≡ Some path
-      → NoCalls source (at + 1) path old new status → StopsAt source paths old new status
-  no_memory : status ≡ statuses.Memory → IsWithin new → StopsAt source paths old new status
+-- calls that are said are calls of the module
+abbrev pub IsFine : Module → Content → Type 0
+IsFine source (contents.Schedule gives) = Unit {0}
+IsFine source (contents.Calls calls) = AreCallsOf source calls

@@ -1,5 +1,5 @@
 -- What the program promises of a call: what it writes where all goes well, and how it ends else.
-use Rattle.std.specs.Prelude.{◌≡◌, ◌≢◌, ◌<◌, ◌≤◌, ◌+◌, ◌⊎◌, ℕ, List, [], ◌++◌, Option, Some, None, All, AllPairs}
+use Rattle.std.specs.Prelude.{◌≡◌, ◌≢◌, ◌<◌, ◌≤◌, ◌+◌, ◌⊎◌, ℕ, List, [], ◌++◌, Option, Some, None, All, AllPairs, length, map}
 use Rattle.dl_io.specs.Faults.{Rose}
 use Rattle.dl_io.specs.Source.{Source}
 use Rattle.dl_io.specs.Taken.{Taken, Took}
@@ -15,10 +15,16 @@ use Rattle.dl_shape.specs.Replay.{IsLegal, replayed}
 use Rattle.dl_closed.specs.Unsealed.{IsUnsealed}
 use Rattle.dl_history.specs.Histories.{Seen}
 use Rattle.dl_history.specs.Report.{report}
-use Rattle.dl_grammar.specs.declared.tree.Tree.{Tree}
 use Rattle.dl_print.specs.Canonical.{canonical}
 use Rattle.dl_instr.specs.Code.{code}
 use Rattle.dl_instr.specs.Listing.{listing}
+use Rattle.dl_core.specs.Heaps.{plain}
+use Rattle.dl_core.specs.Passes.{plan_over}
+use Rattle.dl_core.specs.Plans.{Plan}
+use Rattle.dl_order.specs.Ends.{all_refusals, history_in}
+use Rattle.dl_schedule.specs.declared.give.Give.{Give}
+use Rattle.dl_trace.specs.Runs.{Run as Scheduled, ScheduleRun}
+use Rattle.dl_command.specs.declared.loading.Input.{Input}
 use Rattle.dl_command.specs.declared.status.Status.{Status}
 use Rattle.dl_command.specs.declared.status.Status.TheVariants as statuses
 use Rattle.dl_command.specs.Causes.{Refuses, Cut}
@@ -60,26 +66,44 @@ pub record Reports (source : Module) (heap : Objects) (all : List (List Call)) (
   pub is_run : IsRun source heap all places history refusals
   pub is_report : text ≡ report_of source heap all history.entries refusals
 
--- what a command writes of a tree that is a module, and of calls of it: `serial` and `run` the report of a run of them from the
--- start heap, and `show`, which carries out nothing, the canonical text of the tree and the listing of the module's code. `work` reads
--- no file, and has a promise of its own
-abbrev pub Writes : Verb → Tree → Module → List (List Call) → ℕ → Seen → List Refusal → Text → Type 0
-Writes verbs.Serial tree source all places history refusals text = Reports source (start_objects source) all places history refusals text
-Writes verbs.Run tree source all places history refusals text = Reports source (start_objects source) all places history refusals text
-Writes verbs.Show tree source all places history refusals text =
-    (history ≡ nothing_done) × (refusals ≡ []) × (text ≡ canonical tree ++ listing (code source))
-Writes verbs.Work tree source all places history refusals text = ⊥
+-- what a scheduled run has to keep to: the module's own code, the heap from which it starts, the places, and the calls of each caller
+abbrev pub plan_of : Module → Objects → List (List Call) → ℕ → Plan
+plan_of source heap all places = plan_over (code source) heap places (map length all)
 
--- there is a command, and its files spell a tree that is a module, and its calls; the text is what the command writes of
+-- this is the end of the scheduled run of the calls from this heap, with this history and these refusals, which is a run of the calls;
+-- and the heap at the end is the one that the history leads to
+pub record IsScheduled (source : Module) (heap : Objects) (gives : List Give) (all : List (List Call)) (places : ℕ) (end : Scheduled) (history : Seen) (refusals : List Refusal) : Type 0 where
+  pub run : ScheduleRun (plan_of source heap all places) all gives end
+  pub entries : history.entries ≡ history_in (plan_of source heap all places) end.core
+  pub refused : refusals ≡ all_refusals (plan_of source heap all places) end.core
+  pub heap_at_end : plain end.core.world.heap ≡ replayed source all heap history.entries
+  pub is_run : IsRun source heap all places history refusals
+
+-- the text is the trace of the scheduled run of the calls from this heap, and behind it its report
+pub record Traces (source : Module) (heap : Objects) (gives : List Give) (all : List (List Call)) (places : ℕ) (history : Seen) (refusals : List Refusal) (text : Text) : Type 0 where
+  pub end : Scheduled
+  pub scheduled : IsScheduled source heap gives all places end history refusals
+  pub is_text : text ≡ end.text ++ report_of source heap all history.entries refusals
+
+-- what a command writes of what its files spell: `serial` and `run` the report of a run of the calls from the start heap; `step` the
+-- trace and the report of the scheduled run; and `show`, which carries out nothing, the canonical text of the tree and the listing of the
+-- module's code. `work` reads no file, and has a promise of its own
+abbrev pub Writes : Verb → Input → ℕ → Seen → List Refusal → Text → Type 0
+Writes verbs.Serial input places history refusals text = Reports input.source (start_objects input.source) input.all.items places history refusals text
+Writes verbs.Run input places history refusals text = Reports input.source (start_objects input.source) input.all.items places history refusals text
+Writes verbs.Step input places history refusals text = Traces input.source (start_objects input.source) input.schedule input.all.items places history refusals text
+Writes verbs.Show input places history refusals text =
+    (history ≡ nothing_done) × (refusals ≡ []) × (text ≡ canonical input.tree ++ listing (code input.source))
+Writes verbs.Work input places history refusals text = ⊥
+
+-- there is a command, and its files spell a tree that is a module, and what stands behind it; the text is what the command writes of
 -- these, with this history and these refusals
 pub record Ran (given : Option Task) (files : Source) (history : Seen) (refusals : List Refusal) (text : Text) : Type 0 where
   pub task : Task
   pub is_task : given ≡ Some task
-  pub tree : Tree
-  pub source : Module
-  pub all : List (List Call)
-  pub spells : Spells files task tree source all
-  pub writes : Writes task.verb tree source all task.places history refusals text
+  pub input : Input
+  pub spells : Spells files task input
+  pub writes : Writes task.verb input task.places history refusals text
 
 -- what the sink took of a text
 abbrev pub Prints : Status → Text → Taken → Taken → Type 0
@@ -93,11 +117,11 @@ Prints (statuses.OpsFault file line why) text old new = ⊥
 Prints statuses.Memory text old new = ⊥
 
 -- how a command ends once its files are read: memory runs out, or what it writes is written as far as the sink takes it
-pub data Finishes (verb : Verb) (tree : Tree) (source : Module) (all : List (List Call)) (places : ℕ) (taken_before taken_after : Taken) (status : Status) (history : Seen) (refusals : List Refusal) : Type 0 where
+pub data Finishes (verb : Verb) (input : Input) (places : ℕ) (taken_before taken_after : Taken) (status : Status) (history : Seen) (refusals : List Refusal) : Type 0 where
   no_memory : status ≡ statuses.Memory → taken_after ≡ taken_before → history ≡ nothing_done → refusals ≡ []
-      → Finishes verb tree source all places taken_before taken_after status history refusals
-  wrote : (text : Text) → Writes verb tree source all places history refusals text → Prints status text taken_before taken_after
-      → Finishes verb tree source all places taken_before taken_after status history refusals
+      → Finishes verb input places taken_before taken_after status history refusals
+  wrote : (text : Text) → Writes verb input places history refusals text → Prints status text taken_before taken_after
+      → Finishes verb input places taken_before taken_after status history refusals
 
 -- how a call ends: there is no command, or memory runs out while the words are read, or the files are refused, or memory runs out, or
 -- what the command writes is written as far as the sink takes it

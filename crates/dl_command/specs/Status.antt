@@ -37,7 +37,7 @@ module_why_text modules.NewRoot = codes "NewRoot"
 module_why_text modules.AssignRoot = codes "AssignRoot"
 module_why_text modules.NoRoots = codes "NoRoots"
 
--- the name of a fault of an operation file
+-- the name of a fault of a file behind the module
 abbrev pub ops_why_text : OpsWhy → List ℕ
 ops_why_text calls.NotAscii = codes "NotAscii"
 ops_why_text calls.BadByte = codes "BadByte"
@@ -46,6 +46,8 @@ ops_why_text calls.NoOp = codes "NoOp"
 ops_why_text calls.ArgCount = codes "ArgCount"
 ops_why_text calls.NotNumber = codes "NotNumber"
 ops_why_text calls.NoRoot = codes "NoRoot"
+ops_why_text calls.BadStep = codes "BadStep"
+ops_why_text calls.NoCaller = codes "NoCaller"
 
 -- a place and the fault there
 abbrev pub placed_text : ℕ → List ℕ → List ℕ

@@ -1,5 +1,5 @@
 -- What the files of a command spell, and the faults of texts that spell nothing.
-use Rattle.std.specs.Prelude.{ℕ, ◌≤◌, List, [], ◌∷◌, length}
+use Rattle.std.specs.Prelude.{◌≡◌, ◌≢◌, ℕ, ◌≤◌, List, [], ◌∷◌, ◌++◌, length}
 use Rattle.dl_io.specs.Source.{Source, Tells}
 use Rattle.dl_ir.specs.declared.modules.Module.{Module}
 use Rattle.dl_ir.specs.declared.calls.Call.{Call}
@@ -12,10 +12,21 @@ use Rattle.dl_types.specs.declared.fault.TypeFault.{TypeFault}
 use Rattle.dl_types.specs.declared.fault.TypeFault.TheVariants as types
 use Rattle.dl_syntax.specs.declared.calls.CallsFault.{CallsFault}
 use Rattle.dl_syntax.specs.declared.calls.CallsFault.TheVariants as faults
+use Rattle.dl_schedule.specs.Rules.{SpellsSchedule, IsScheduleFault}
+use Rattle.dl_schedule.specs.declared.give.Give.{Give}
+use Rattle.dl_schedule.specs.declared.give.ScheduleFault.{ScheduleFault}
+use Rattle.dl_schedule.specs.declared.give.ScheduleFault.TheVariants as schedules
+use Rattle.dl_command.specs.declared.loading.Content.{Content}
+use Rattle.dl_command.specs.declared.loading.Content.TheVariants as contents
+use Rattle.dl_command.specs.declared.loading.Input.{Input}
+use Rattle.dl_command.specs.declared.status.Status.{Status}
+use Rattle.dl_command.specs.declared.status.Status.TheVariants as statuses
+use Rattle.dl_command.specs.declared.wanted.Form.{Form}
+use Rattle.dl_command.specs.declared.wanted.Form.TheVariants as forms
 use Rattle.dl_command.specs.declared.status.ModuleWhy.{ModuleWhy}
 use Rattle.dl_command.specs.declared.status.ModuleWhy.TheVariants as modules
-use Rattle.dl_command.specs.declared.status.OpsWhy.{OpsWhy}
-use Rattle.dl_command.specs.declared.status.OpsWhy.TheVariants as calls
+use Rattle.dl_command.specs.declared.status.OpsWhy.TheVariants as whys
+use Rattle.dl_command.specs.Wanted.{Wanted, wanted}
 use Rattle.dl_command.specs.Words.{Text, Task, limit_of}
 
 -- the text spells a tree, and the tree is this module
@@ -46,33 +57,69 @@ IsModuleFault text line modules.NewRoot = HasTypeFault text (types.NewRoot line)
 IsModuleFault text line modules.AssignRoot = HasTypeFault text (types.AssignRoot line)
 IsModuleFault text line modules.NoRoots = HasTypeFault text (types.NoRoots line)
 
--- the fault of this name in a line of an operation file
-abbrev pub calls_fault : ℕ → OpsWhy → CallsFault
-calls_fault line calls.NotAscii = faults.NotAscii line
-calls_fault line calls.BadByte = faults.BadByte line
-calls_fault line calls.TooMany = faults.TooMany line
-calls_fault line calls.NoOp = faults.NoOp line
-calls_fault line calls.ArgCount = faults.ArgCount line
-calls_fault line calls.NotNumber = faults.NotNumber line
-calls_fault line calls.NoRoot = faults.NoRoot line
+-- the status that tells a fault of the operation file of this number
+abbrev pub calls_status : ℕ → CallsFault → Status
+calls_status file (faults.NotAscii line) = statuses.OpsFault file line whys.NotAscii
+calls_status file (faults.BadByte line) = statuses.OpsFault file line whys.BadByte
+calls_status file (faults.TooMany line) = statuses.OpsFault file line whys.TooMany
+calls_status file (faults.NoOp line) = statuses.OpsFault file line whys.NoOp
+calls_status file (faults.ArgCount line) = statuses.OpsFault file line whys.ArgCount
+calls_status file (faults.NotNumber line) = statuses.OpsFault file line whys.NotNumber
+calls_status file (faults.NoRoot line) = statuses.OpsFault file line whys.NoRoot
+calls_status file faults.Memory = statuses.Memory
 
--- the text is no operation file of the module, and this is its first fault
-abbrev pub IsOpsFault : Module → Text → ℕ → OpsWhy → Type 0
-IsOpsFault source text line why = IsCallsFault source text (calls_fault line why)
+-- the status that tells a fault of the schedule file of this number
+abbrev pub schedule_status : ℕ → ScheduleFault → Status
+schedule_status file (schedules.NotAscii line) = statuses.OpsFault file line whys.NotAscii
+schedule_status file (schedules.BadByte line) = statuses.OpsFault file line whys.BadByte
+schedule_status file (schedules.BadStep line) = statuses.OpsFault file line whys.BadStep
+schedule_status file (schedules.NoCaller line) = statuses.OpsFault file line whys.NoCaller
+schedule_status file (schedules.TooMany line) = statuses.OpsFault file line whys.TooMany
+schedule_status file schedules.Memory = statuses.Memory
 
--- the bytes at a path, at most as many as an operation file may have, are one with these calls
-pub record IsFile (source : Module) (files : Source) (path : Text) (calls : List Call) : Type 0 where
+-- there is such a fault, other than want of memory, and the status tells it
+pub record IsToldBy {Fault : Type 0} (is_fault : Fault → Type 0) (memory : Fault) (told : Fault → Status) (status : Status) : Type 0 where
+  pub fault : Fault
+  pub at_fault : is_fault fault
+  pub other : fault ≢ memory
+  pub is : status ≡ told fault
+
+-- the text is not of this form, and the status tells its first fault, in the file of this number
+abbrev pub IsFaultOf : Module → ℕ → Form → Text → Status → Type 0
+IsFaultOf source file (forms.Schedule callers) text status = IsToldBy (IsScheduleFault callers text) schedules.Memory (schedule_status file) status
+IsFaultOf source file forms.Operations text status = IsToldBy (IsCallsFault source text) faults.Memory (calls_status file) status
+
+-- what a text of this form says: the gives of a schedule, or calls of the module
+abbrev pub Says : Module → Form → Text → Content → Type 0
+Says source (forms.Schedule callers) text (contents.Schedule gives) = SpellsSchedule callers text gives
+Says source (forms.Schedule callers) text (contents.Calls calls) = ⊥
+Says source forms.Operations text (contents.Schedule gives) = ⊥
+Says source forms.Operations text (contents.Calls calls) = IsCallsFile source text calls
+
+-- the bytes at the path of a wanted file, at most as many as it may have, say this
+pub record IsFile (source : Module) (files : Source) (file : Wanted) (content : Content) : Type 0 where
   pub text : Text
-  pub told : Tells (files.bytes_at path) text
-  pub short : length text ≤ limit_of 1
-  pub spells : IsCallsFile source text calls
+  pub told : Tells (files.bytes_at file.path) text
+  pub short : length text ≤ limit_of file.number
+  pub says : Says source file.form text content
 
--- the bytes at each path are an operation file with the calls at its place
-abbrev pub AreFiles : Module → Source → List Text → List (List Call) → Type 0
-AreFiles source files [] [] = Unit {0}
-AreFiles source files [] (calls ∷ rest) = ⊥
-AreFiles source files (path ∷ paths) [] = ⊥
-AreFiles source files (path ∷ paths) (calls ∷ rest) = IsFile source files path calls × AreFiles source files paths rest
+-- what the files behind a module say: a schedule, empty where there is none, and the calls of each operation file
+pub record Behind : Type 0 where
+  pub gives : List Give
+  pub all : List (List Call)
+
+abbrev pub nothing_behind : Behind
+nothing_behind = record { gives = []; all = [] }
+
+-- the same, and what one more file says
+abbrev pub with_content : Behind → Content → Behind
+with_content behind (contents.Schedule gives) = record behind { gives = gives }
+with_content behind (contents.Calls calls) = record behind { all = behind.all ++ calls ∷ [] }
+
+-- the wanted files, one after another, lead from what was said to this
+abbrev pub AreFiles : Module → Source → List Wanted → Behind → Behind → Type 0
+AreFiles source files [] before after = after ≡ before
+AreFiles source files (file ∷ rest) before after = (content : Content) × IsFile source files file content × AreFiles source files rest (with_content before content) after
 
 -- the bytes at the path of a module, at most as many as it may have, spell this tree, and the tree is this module
 pub record IsModuleFile (files : Source) (path : Text) (tree : Tree) (source : Module) : Type 0 where
@@ -82,7 +129,11 @@ pub record IsModuleFile (files : Source) (path : Text) (tree : Tree) (source : M
   pub spelled : SpellsTree text tree
   pub typed : Types tree source
 
--- the files of a command spell a tree that is a module, and operation files with these calls
-pub record Spells (files : Source) (task : Task) (tree : Tree) (source : Module) (all : List (List Call)) : Type 0 where
-  pub source_file : IsModuleFile files task.first tree source
-  pub call_files : AreFiles source files task.rest all
+-- what the files behind a module say, as the program holds it
+abbrev pub behind_of : Input → Behind
+behind_of input = record { gives = input.schedule; all = input.all.items }
+
+-- the files of a command spell a tree that is a module, and behind it what the command wants
+pub record Spells (files : Source) (task : Task) (input : Input) : Type 0 where
+  pub source_file : IsModuleFile files task.first input.tree input.source
+  pub behind : AreFiles input.source files (wanted task) nothing_behind (behind_of input)

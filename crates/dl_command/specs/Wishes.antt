@@ -24,6 +24,7 @@ abbrev pub wish_by : Verb → Task → Option Wish
 wish_by verbs.Work task = option_map (λ asked. FromSeed asked task.places) (asked_of task.first task.rest)
 wish_by verbs.Serial task = Some (OverFiles task)
 wish_by verbs.Run task = Some (OverFiles task)
+wish_by verbs.Step task = Some (OverFiles task)
 wish_by verbs.Show task = Some (OverFiles task)
 
 abbrev pub wish_of : Option Task → Option Wish

@@ -1,5 +1,5 @@
 -- Which words are a command, over what the library `clap` makes of them: the command line, and the table of commands.
-use Rattle.std.specs.Prelude.{◌≡◌, ℕ, ◌==◌, ◌-◌, ◌^◌, nat_lt, true, List, [], ◌∷◌, length, map, find, fold, pos, Option, Some, None, codes, bytes_eq, slice_get, unwrap_or, if◌then◌else◌}
+use Rattle.std.specs.Prelude.{◌≡◌, ℕ, ◌==◌, ◌-◌, ◌≤◌, ◌^◌, nat_lt, true, List, [], ◌∷◌, length, map, find, fold, pos, Option, Some, None, codes, bytes_eq, unwrap_or, if◌then◌else◌}
 use Rattle.std.specs.Prelude.{option_map, option_and_then}
 use Rattle.std.specs.Str.Parse.{digits_value, without_leading_plus}
 use Rattle.clap.specs.ValueTests.{is_unsigned_in}
@@ -83,12 +83,13 @@ line_of_matches rows = option_and_then (λ command. option_and_then (λ first. o
 }) (option_and_then number_of (one_of (codes "places") rows))) (first_of (codes "FIRST") rows)) (first_of (codes "COMMAND") rows)
 
 -- the table of commands, a row each: the word COMMAND, what it asks for, and how many words REST has at least and at most;
--- they are `serial MODULE OPERATIONS`, `run MODULE OPERATIONS..` with up to 64 operation files, `show MODULE`, and
--- `work SEED COUNT CALLERS`
+-- they are `serial MODULE OPERATIONS`, `run MODULE OPERATIONS..` and `step MODULE SCHEDULE OPERATIONS..` with up to 64 operation
+-- files, `show MODULE`, and `work SEED COUNT CALLERS`
 abbrev pub table : List (Text × CommandRow)
 table =
     (codes "serial", record { verb = verbs.Serial; fewest = 1; most = 1 })
     ∷ (codes "run", record { verb = verbs.Run; fewest = 1; most = 64 })
+    ∷ (codes "step", record { verb = verbs.Step; fewest = 2; most = 65 })
     ∷ (codes "show", record { verb = verbs.Show; fewest = 0; most = 0 })
     ∷ (codes "work", record { verb = verbs.Work; fewest = 2; most = 2 })
     ∷ []
@@ -129,6 +130,7 @@ IsGood given = (task : Task) × (given ≡ Some task)
 abbrev pub unless_run : Verb → Task → Option Task
 unless_run verbs.Run task = None
 unless_run verbs.Serial task = Some task
+unless_run verbs.Step task = Some task
 unless_run verbs.Show task = Some task
 unless_run verbs.Work task = Some task
 
@@ -141,9 +143,13 @@ abbrev pub status_of : WordsFault → Status
 status_of faults.Usage = statuses.Usage
 status_of faults.Memory = statuses.Memory
 
--- the path of a file of a command; the module is file 0
-abbrev pub path_of : Task → ℕ → Option Text
-path_of task file = slice_get (task.first ∷ task.rest) file
+-- a command of the table may have so many words REST
+abbrev pub MayHave : Verb → ℕ → Type 0
+MayHave verbs.Serial count = count ≡ 1
+MayHave verbs.Run count = (1 ≤ count) × (count ≤ 64)
+MayHave verbs.Step count = (2 ≤ count) × (count ≤ 65)
+MayHave verbs.Show count = count ≡ 0
+MayHave verbs.Work count = count ≡ 2
 
 -- how many bytes a file may have: the module fewer than the others
 abbrev pub limit_of : ℕ → ℕ

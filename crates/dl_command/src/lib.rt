@@ -9,7 +9,9 @@ mod run;
 mod scheduled;
 mod show;
 mod status;
+mod step;
 mod top;
+mod wanted;
 mod words;
 mod work;
 

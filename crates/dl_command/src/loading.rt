@@ -1,26 +1,30 @@
-//! Reading the files of a command: the module and its calls, or why they are refused.
+//! Reading the files of a command: the module and what stands behind it, or why they are refused.
 
 ghost use Rattle.std.specs.Prelude.{◌≡◌, ◌<◌, ◌≤◌, map, All, IfOk, IfErr, OnOk, length};
 ghost use Rattle.dl_ir.specs.CallForms.{AreCallsOf};
 ghost use Rattle.dl_ir.specs.Checked.{IsChecked};
-ghost use Rattle.dl_command.specs.Causes.{NoModule, NoCalls, Refuses};
+ghost use Rattle.dl_ir.specs.declared.modules.Module.{Module as ModuleOf};
+ghost use Rattle.dl_command.specs.Causes.{NoFile, NoModule, Refuses};
 ghost use Rattle.dl_command.specs.Reading.{AfterReading, IsWithin};
-ghost use Rattle.dl_command.specs.Texts.{IsModuleFile, IsFile, AreFiles, Spells};
+ghost use Rattle.dl_command.specs.Texts.{IsModuleFile, IsFile, AreFiles, Says, Spells, behind_of, calls_status, nothing_behind, schedule_status, with_content};
+ghost use Rattle.dl_command.specs.Wanted.{wanted_held};
 ghost use Rattle.dl_command.specs.Words.{task_of};
 ghost use Rattle.dl_grammar.specs.Texts.{Spells as SpellsTree};
-ghost use Rattle.dl_syntax.specs.Rules.{IsCallsFile};
 ghost use Rattle.dl_types.specs.Rules.{Types};
-ghost use Rattle.dl_command.specs.Loading.{syntax_status, type_status, ParseCause, CallsCause, OpsCause, StopsAt};
+ghost use Rattle.dl_command.specs.Loading.{syntax_status, type_status, IsFine, ParseCause, TextCause, StopsAt};
 
 use crate::reading::read_file;
 use crate::status::{ModuleWhy, OpsWhy, Status};
+use crate::wanted::{Form, WantedFile, wanted_files};
 use crate::words::Command;
 use dl_grammar::{SyntaxFault, Tree, read_module};
 use dl_io::Files;
 use dl_ir::{Calls, Module};
+use dl_schedule::{Schedule, ScheduleFault, read_schedule};
 use dl_syntax::{CallsFault, read_calls};
 use dl_types::{TypeFault, check};
-use std::alloc::Global;
+use sqlite_items::Items;
+use std::alloc::{AllocError, Global};
 
 fn module_fault(line: u32, why: ModuleWhy) -> Status
     ensures { result ≡ Status.ModuleFault line why }
@@ -84,61 +88,93 @@ fn parse_module(alloc: Global, text: &[u8]) -> Result<Parsed, Status>
     }
 }
 
+fn ops_fault(file: u32, line: u32, why: OpsWhy) -> Status
+    ensures { result ≡ Status.OpsFault file line why }
+{
+    Status::OpsFault { file, line, why }
+}
+
 // The status of a fault of an operation file.
-fn status_of(file: u32, fault: CallsFault) -> Status
-    ensures { CallsCause file fault result }
+fn status_of_calls(file: u32, fault: CallsFault) -> Status
+    ensures { result ≡ calls_status file fault }
 {
     match fault {
-        CallsFault::NotAscii { line } => Status::OpsFault {
-            file,
-            line,
-            why: OpsWhy::NotAscii,
-        },
-        CallsFault::BadByte { line } => Status::OpsFault {
-            file,
-            line,
-            why: OpsWhy::BadByte,
-        },
-        CallsFault::TooMany { line } => Status::OpsFault {
-            file,
-            line,
-            why: OpsWhy::TooMany,
-        },
-        CallsFault::NoOp { line } => Status::OpsFault {
-            file,
-            line,
-            why: OpsWhy::NoOp,
-        },
-        CallsFault::ArgCount { line } => Status::OpsFault {
-            file,
-            line,
-            why: OpsWhy::ArgCount,
-        },
-        CallsFault::NotNumber { line } => Status::OpsFault {
-            file,
-            line,
-            why: OpsWhy::NotNumber,
-        },
-        CallsFault::NoRoot { line } => Status::OpsFault {
-            file,
-            line,
-            why: OpsWhy::NoRoot,
-        },
+        CallsFault::NotAscii { line } => ops_fault(file, line, OpsWhy::NotAscii),
+        CallsFault::BadByte { line } => ops_fault(file, line, OpsWhy::BadByte),
+        CallsFault::TooMany { line } => ops_fault(file, line, OpsWhy::TooMany),
+        CallsFault::NoOp { line } => ops_fault(file, line, OpsWhy::NoOp),
+        CallsFault::ArgCount { line } => ops_fault(file, line, OpsWhy::ArgCount),
+        CallsFault::NotNumber { line } => ops_fault(file, line, OpsWhy::NotNumber),
+        CallsFault::NoRoot { line } => ops_fault(file, line, OpsWhy::NoRoot),
         CallsFault::Memory => Status::Memory,
     }
 }
 
-// The calls of an operation file with this number.
-fn parse_calls(alloc: Global, source: &Module, file: u32, text: &[u8]) -> Result<Calls, Status>
+// The status of a fault of a schedule file.
+fn status_of_schedule(file: u32, fault: ScheduleFault) -> Status
+    ensures { result ≡ schedule_status file fault }
+{
+    match fault {
+        ScheduleFault::NotAscii { line } => ops_fault(file, line, OpsWhy::NotAscii),
+        ScheduleFault::BadByte { line } => ops_fault(file, line, OpsWhy::BadByte),
+        ScheduleFault::BadStep { line } => ops_fault(file, line, OpsWhy::BadStep),
+        ScheduleFault::NoCaller { line } => ops_fault(file, line, OpsWhy::NoCaller),
+        ScheduleFault::TooMany { line } => ops_fault(file, line, OpsWhy::TooMany),
+        ScheduleFault::Memory => Status::Memory,
+    }
+}
+
+/// What a file behind the module says.
+#[derive(Drop)]
+pub enum Content {
+    Schedule(Schedule),
+    Calls(Calls),
+}
+
+// The schedule of a file with this number.
+fn parse_schedule(alloc: Global, callers: u32, file: u32, text: &[u8]) -> Result<Content, Status>
+    requires short { length text.now ≤ 4194304 }
+    ensures ok { (source : ModuleOf) → IfOk result (Says source (Form.Schedule callers) text.now) }
+    ensures calls { (source : ModuleOf) → IfOk result (IsFine source) }
+    ensures cause { (source : ModuleOf) → IfErr result (TextCause source file (Form.Schedule callers) text.now) }
+{
+    match read_schedule(alloc, text, callers) {
+        Ok(schedule) => Ok(Content::Schedule(schedule)),
+        Err(fault) => Err(status_of_schedule(file, fault)),
+    }
+}
+
+// The calls of a file with this number.
+fn parse_calls(alloc: Global, source: &Module, file: u32, text: &[u8]) -> Result<Content, Status>
     requires few_ops { length source.now.ops ≤ 64 }
     requires short { length text.now ≤ 4194304 }
-    ensures ok { IfOk result (IsCallsFile source.now text.now) }
-    ensures calls { IfOk result (AreCallsOf source.now) }
-    ensures cause { IfErr result (OpsCause source.now text.now file) }
+    ensures ok { IfOk result (Says source.now Form.Operations text.now) }
+    ensures calls { IfOk result (IsFine source.now) }
+    ensures cause { IfErr result (TextCause source.now file Form.Operations text.now) }
 {
     match read_calls(alloc, text, source) {
-        Ok(calls) => Ok(calls),
-        Err(fault) => Err(status_of(file, fault)),
+        Ok(calls) => Ok(Content::Calls(calls)),
+        Err(fault) => Err(status_of_calls(file, fault)),
+    }
+}
+
+// What a text of this form says.
+fn parse(
+    alloc: Global,
+    source: &Module,
+    file: u32,
+    form: Form,
+    text: &[u8],
+) -> Result<Content, Status>
+    requires few_ops { length source.now.ops ≤ 64 }
+    requires short { length text.now ≤ 4194304 }
+    ensures ok { IfOk result (Says source.now form text.now) }
+    ensures calls { IfOk result (IsFine source.now) }
+    ensures cause { IfErr result (TextCause source.now file form text.now) }
+{
+    match form {
+        Form::Schedule { callers } => parse_schedule(alloc, callers, file, text),
+        Form::Operations => parse_calls(alloc, source, file, text),
     }
 }
 
@@ -157,66 +193,97 @@ fn read_source<F: Files>(alloc: Global, files: &mut F, path: &str) -> Result<Par
     parse_module(alloc, &text)
 }
 
-// Reads an operation file of a command.
-fn read_calls_file<F: Files>(
+// Reads a wanted file.
+fn read_wanted<F: Files>(
     alloc: Global,
     files: &mut F,
     source: &Module,
-    file: u32,
-    path: &str,
-) -> Result<Calls, Status>
+    file: WantedFile<'_>,
+) -> Result<Content, Status>
     requires few_ops { length source.now.ops ≤ 64 }
-    requires number { 0 < file }
-    ensures ok { IfOk result (IsFile source.now (F.source files.old) path.now) }
-    ensures calls { IfOk result (AreCallsOf source.now) }
+    requires number { 0 < file.number }
+    ensures ok { IfOk result (IsFile source.now (F.source files.old) (wanted_held file.entry)) }
+    ensures calls { IfOk result (IsFine source.now) }
     ensures within { OnOk result (IsWithin (F.source files.new)) }
-    ensures cause { IfErr result (NoCalls source.now file path.now (F.source files.old) (F.source files.new)) }
+    ensures cause { IfErr result (NoFile source.now (wanted_held file.entry) (F.source files.old) (F.source files.new)) }
     ensures after { AfterReading (F.source files.old) (F.source files.new) }
 {
-    let text = match read_file(alloc, files, file, path) {
+    let text = match read_file(alloc, files, file.number, file.path) {
         Ok(text) => text,
         Err(status) => return Err(status),
     };
-    parse_calls(alloc, source, file, &text)
+    parse(alloc, source, file.number, file.form, &text)
 }
 
-// Reads the operation files of a command, which are the files from 1 on.
-fn read_all_calls<F: Files>(
-    alloc: Global,
-    files: &mut F,
-    source: &Module,
-    paths: &[&str],
-) -> Result<Vec<Calls>, Status>
-    requires few_ops { length source.now.ops ≤ 64 }
-    requires few { length paths.now ≤ 64 }
-    requires within { IsWithin (F.source files.old) }
-    ensures ok { IfOk result (λ all. AreFiles source.now (F.source files.old) (map (λ path. path.now) paths.now) all.items) }
-    ensures calls { IfOk result (λ all. All (AreCallsOf source.now) all.items) }
-    ensures within { OnOk result (IsWithin (F.source files.new)) }
-    ensures cause { IfErr result (StopsAt source.now (map (λ path. path.now) paths.now) (F.source files.old) (F.source files.new)) }
-    ensures after { AfterReading (F.source files.old) (F.source files.new) }
-{
-    let mut all = Vec::new(alloc);
-    'paths: for (i, path) in paths.iter().enumerate() {
-        match read_calls_file(alloc, files, source, i as u32 + 1, path) {
-            Ok(calls) => {
-                match all.push(calls) {
-                    Ok(()) => {}
-                    Err(_) => return Err(Status::Memory),
-                }
-            }
-            Err(status) => return Err(status),
-        }
-    }
-    Ok(all)
-}
-
-/// What the files of a command say: the tree of the module's text, the module, and the calls of each operation file.
+/// What the files of a command say: the tree of the module's text, the module, the schedule, which is empty where none is
+/// wanted, and the calls of each operation file.
 #[derive(Drop)]
 pub struct Input {
     pub tree: Tree,
     pub source: Module,
+    pub schedule: Schedule,
     pub all: Vec<Calls>,
+}
+
+impl Input {
+    // Of a module, with nothing behind it.
+    fn new(alloc: Global, tree: Tree, source: Module) -> Input
+        ensures tree { result.tree ≡ tree }
+        ensures source { result.source ≡ source }
+        ensures behind { behind_of result ≡ nothing_behind }
+    {
+        Input {
+            tree,
+            source,
+            schedule: Items::new(alloc),
+            all: Vec::new(alloc),
+        }
+    }
+
+    // Takes in what one more file says.
+    fn add(&mut self, content: Content) -> Result<(), AllocError>
+        ensures tree { self.new.tree ≡ self.old.tree }
+        ensures source { self.new.source ≡ self.old.source }
+        ensures behind { OnOk result (behind_of self.new ≡ with_content (behind_of self.old) content) }
+    {
+        match content {
+            Content::Schedule(schedule) => self.schedule = schedule,
+            Content::Calls(calls) => self.all.push(calls)?,
+        }
+        Ok(())
+    }
+}
+
+// Reads the files that are wanted behind the module.
+fn read_behind<F: Files>(
+    alloc: Global,
+    files: &mut F,
+    input: &mut Input,
+    wanted: &[WantedFile<'_>],
+) -> Result<(), Status>
+    requires few_ops { length input.old.source.ops ≤ 64 }
+    requires numbers { All (λ file. 0 < file.number) wanted.now }
+    requires empty { behind_of input.old ≡ nothing_behind }
+    requires within { IsWithin (F.source files.old) }
+    ensures tree { input.new.tree ≡ input.old.tree }
+    ensures source { input.new.source ≡ input.old.source }
+    ensures ok { OnOk result (AreFiles input.new.source (F.source files.old) (map wanted_held wanted.now) nothing_behind (behind_of input.new)) }
+    ensures calls { OnOk result (All (AreCallsOf input.new.source) input.new.all.items) }
+    ensures within { OnOk result (IsWithin (F.source files.new)) }
+    ensures cause { IfErr result (StopsAt input.new.source (map wanted_held wanted.now) (F.source files.old) (F.source files.new)) }
+    ensures after { AfterReading (F.source files.old) (F.source files.new) }
+{
+    'wanted: for file in wanted {
+        let content = match read_wanted(alloc, files, &input.source, *file) {
+            Ok(content) => content,
+            Err(status) => return Err(status),
+        };
+        match input.add(content) {
+            Ok(()) => {}
+            Err(_) => return Err(Status::Memory),
+        }
+    }
+    Ok(())
 }
 
 /// Reads the files of a command, the module first.
@@ -225,8 +292,8 @@ pub fn read_input<F: Files>(
     files: &mut F,
     command: &Command<'_>,
 ) -> Result<Input, Status>
-    requires { length command.now.rest.items ≤ 64 }
-    ensures spells { IfOk result (λ input. Spells (F.source files.old) (task_of command.now) input.tree input.source input.all.items) }
+    requires { length command.now.rest.items ≤ 65 }
+    ensures spells { IfOk result (Spells (F.source files.old) (task_of command.now)) }
     ensures checked { IfOk result (λ input. IsChecked input.source) }
     ensures calls { IfOk result (λ input. All (AreCallsOf input.source) input.all.items) }
     ensures within { OnOk result (IsWithin (F.source files.new)) }
@@ -237,8 +304,12 @@ pub fn read_input<F: Files>(
         Ok(parsed) => parsed,
         Err(status) => return Err(status),
     };
-    match read_all_calls(alloc, files, &source, command.rest.as_slice()) {
-        Ok(all) => Ok(Input { tree, source, all }),
+    let Ok(wanted) = wanted_files(alloc, command) else {
+        return Err(Status::Memory);
+    };
+    let mut input = Input::new(alloc, tree, source);
+    match read_behind(alloc, files, &mut input, wanted.as_slice()) {
+        Ok(()) => Ok(input),
         Err(status) => Err(status),
     }
 }

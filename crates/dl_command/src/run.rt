@@ -1,6 +1,6 @@
 //! Running the calls of a command, and the report of it.
 
-ghost use Rattle.std.specs.Prelude.{◌≡◌, ◌≤◌, ◌<◌, ◌^◌, ◌+◌, ◌∷◌, [], All, IfOk, length, map, sum_by};
+ghost use Rattle.std.specs.Prelude.{◌≡◌, ◌≤◌, ◌<◌, ◌^◌, ◌+◌, ◌∷◌, [], false, All, IfOk, OnOk, length, map, sum_by};
 ghost use Rattle.dl_ir.specs.CallForms.{AreCallsOf};
 ghost use Rattle.dl_ir.specs.Checked.{IsChecked};
 ghost use Rattle.dl_ir.specs.Cover.{Covers};
@@ -8,6 +8,7 @@ ghost use Rattle.dl_ir.specs.Heap.{start_objects};
 ghost use Rattle.dl_shape.specs.Pool.{moves_of, in_rising_versions};
 ghost use Rattle.dl_shape.specs.Replay.{replayed};
 ghost use Rattle.dl_history.specs.Histories.{joined, AreByCaller};
+ghost use Rattle.dl_text.specs.Writing.{Puts};
 ghost use Rattle.dl_command.specs.Promise.{IsRun, Prints, report_of};
 
 use crate::loading::Input;
@@ -138,6 +139,29 @@ fn close(alloc: Global, heap: Heap, served: Served) -> Result<Closed, AllocError
     })
 }
 
+/// Puts the report of a run, and writes all that was put.
+pub fn put_run<K: Sink>(input: &Input, run: &Run, out: &mut Out, sink: &mut K) -> Result<(), Failed>
+    requires works { out.old.failed ≡ false }
+    requires few { length input.now.all.items ≤ 64 }
+    requires calls { All (AreCallsOf input.now.source) input.now.all.items }
+    requires covers { Covers input.now.all.items run.now.history.entries run.now.refusals }
+    requires heap { run.now.closed.heap.objects ≡ replayed input.now.source input.now.all.items (start_objects input.now.source) run.now.history.entries }
+    requires moves { run.now.history.moves ≡ in_rising_versions (moves_of input.now.source input.now.all.items run.now.history.entries) }
+    requires refusals { (joined run.now.closed.refusals ≡ run.now.refusals) × AreByCaller run.now.closed.refusals }
+    ensures puts { Puts (K.taken sink.old) out.old (report_of input.now.source (start_objects input.now.source) input.now.all.items run.now.history.entries run.now.refusals) result (K.taken sink.new) out.new }
+    ensures empty { OnOk result (out.new.bytes ≡ []) }
+{
+    write_report(
+        &input.source,
+        input.all.as_slice(),
+        &run.history,
+        &run.closed,
+        out,
+        sink,
+    )?;
+    out.flush(sink)
+}
+
 /// Writes the report of a run.
 pub fn write_run<K: Sink>(input: &Input, run: &Run, sink: &mut K) -> Status
     requires few { length input.now.all.items ≤ 64 }
@@ -149,18 +173,8 @@ pub fn write_run<K: Sink>(input: &Input, run: &Run, sink: &mut K) -> Status
     ensures { Prints result (report_of input.now.source (start_objects input.now.source) input.now.all.items run.now.history.entries run.now.refusals) (K.taken sink.old) (K.taken sink.new) }
 {
     let mut out = Out::new();
-    match write_report(
-        &input.source,
-        input.all.as_slice(),
-        &run.history,
-        &run.closed,
-        &mut out,
-        sink,
-    ) {
-        Ok(()) => match out.flush(sink) {
-            Ok(()) => Status::Done,
-            Err(Failed) => Status::WriteFault,
-        },
+    match put_run(input, run, &mut out, sink) {
+        Ok(()) => Status::Done,
         Err(Failed) => Status::WriteFault,
     }
 }

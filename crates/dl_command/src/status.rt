@@ -20,7 +20,7 @@ pub enum Status {
     TooLong { file: u32 },
     /// File 0 is no module.
     ModuleFault { line: u32, why: ModuleWhy },
-    /// A file is no operation file of the module.
+    /// A file behind the module is not what it should be: operations of the module, or a schedule.
     OpsFault { file: u32, line: u32, why: OpsWhy },
     /// Only a part was written.
     WriteFault,
@@ -46,7 +46,7 @@ pub enum ModuleWhy {
     NoRoots,
 }
 
-/// Why a text is no operation file of a module. `docs/LANGUAGE.md` tells when each comes.
+/// Why a text is no operation file of a module, or no schedule. `docs/LANGUAGE.md` tells when each comes.
 #[derive(Clone, Copy, Debug, PartialEq, Eq)]
 pub enum OpsWhy {
     NotAscii,
@@ -56,6 +56,8 @@ pub enum OpsWhy {
     ArgCount,
     NotNumber,
     NoRoot,
+    BadStep,
+    NoCaller,
 }
 
 fn limit_name(limit: Which) -> &'static str
@@ -105,6 +107,8 @@ fn ops_why_name(why: OpsWhy) -> &'static str
         OpsWhy::ArgCount => "ArgCount",
         OpsWhy::NotNumber => "NotNumber",
         OpsWhy::NoRoot => "NoRoot",
+        OpsWhy::BadStep => "BadStep",
+        OpsWhy::NoCaller => "NoCaller",
     }
 }
 

@@ -5,8 +5,9 @@ ghost use Rattle.dl_io.specs.Source.{Source};
 ghost use Rattle.dl_ir.specs.CallForms.{AreCallsOf};
 ghost use Rattle.dl_ir.specs.Checked.{IsChecked};
 ghost use Rattle.dl_command.specs.Promise.{Finishes, Ends, nothing_done};
+ghost use Rattle.dl_schedule.specs.Rules.{IsGiveOf};
 ghost use Rattle.dl_command.specs.Wishes.{Comes, Keeps, still_wish_of_words, wish_by, wish_of_words};
-ghost use Rattle.dl_command.specs.Words.{task_of};
+ghost use Rattle.dl_command.specs.Words.{MayHave, task_of};
 ghost use Rattle.dl_command.specs.Work.{FinishesWork};
 
 use crate::loading::{Input, read_input};
@@ -14,6 +15,7 @@ use crate::numbers::{Asked, asked_of};
 use crate::run::{run_input, run_over, write_run};
 use crate::show::write_shown;
 use crate::status::Status;
+use crate::step::{make_ready, run_steps};
 use crate::words::{Command, Verb, Words, command_of};
 use crate::work::{run_work, write_work};
 use dl_coarse::Coarse;
@@ -56,7 +58,7 @@ fn serial<K: Sink>(alloc: Global, input: &Input, places: u32, out: &mut K) -> Ou
     requires checked { IsChecked input.now.source }
     requires one { length input.now.all.items ≡ 1 }
     requires calls { All (AreCallsOf input.now.source) input.now.all.items }
-    ensures { Finishes Verb.Serial input.now.tree input.now.source input.now.all.items places (K.taken out.old) (K.taken out.new) result.status result.history result.refusals }
+    ensures { Finishes Verb.Serial input.now places (K.taken out.old) (K.taken out.new) result.status result.history result.refusals }
 {
     match run_input(alloc, input, places) {
         Ok(run) => {
@@ -85,7 +87,7 @@ fn run<R: Threads + Wait + Sync, G: Ground, K: Sink, T: Gate>(
     requires some { 1 ≤ length input.now.all.items }
     requires few { length input.now.all.items ≤ 64 }
     requires calls { All (AreCallsOf input.now.source) input.now.all.items }
-    ensures { Finishes Verb.Run input.now.tree input.now.source input.now.all.items places (K.taken out.old) (K.taken out.new) result.status result.history result.refusals }
+    ensures { Finishes Verb.Run input.now places (K.taken out.old) (K.taken out.new) result.status result.history result.refusals }
 {
     match run_over::<R, G, T>(rt, alloc, input, places, gate) {
         Ok(run) => {
@@ -100,9 +102,32 @@ fn run<R: Threads + Wait + Sync, G: Ground, K: Sink, T: Gate>(
     }
 }
 
+// Runs the calls of a command by its schedule from the start heap, and writes the trace and the report.
+fn step<K: Sink>(alloc: Global, input: &Input, places: u32, out: &mut K) -> Outcome
+    requires places { places ≤ 65536 }
+    requires checked { IsChecked input.now.source }
+    requires some { 1 ≤ length input.now.all.items }
+    requires few { length input.now.all.items ≤ 64 }
+    requires calls { All (AreCallsOf input.now.source) input.now.all.items }
+    requires callers { All (IsGiveOf (length input.now.all.items)) input.now.schedule }
+    ensures { Finishes Verb.Step input.now places (K.taken out.old) (K.taken out.new) result.status result.history result.refusals }
+{
+    match make_ready(alloc, input, places) {
+        Ok(ready) => {
+            let (status, run) = run_steps(input, ready, out);
+            Outcome {
+                status,
+                history: run.history,
+                refusals: run.refusals,
+            }
+        }
+        Err(_) => nothing(alloc, Status::Memory),
+    }
+}
+
 // Writes the module in its canonical form, and its code.
 fn show<K: Sink>(alloc: Global, input: &Input, out: &mut K) -> Outcome
-    ensures { (places : ℕ) → Finishes Verb.Show input.now.tree input.now.source input.now.all.items places (K.taken out.old) (K.taken out.new) result.status result.history result.refusals }
+    ensures { (places : ℕ) → Finishes Verb.Show input.now places (K.taken out.old) (K.taken out.new) result.status result.history result.refusals }
 {
     match instrument(alloc, &input.source) {
         Ok(code) => nothing(alloc, write_shown(&input.tree, &code, out)),
@@ -137,7 +162,7 @@ fn serial_command<F: Files, K: Sink>(
     out: &mut K,
 ) -> Outcome
     requires verb { command.now.verb ≡ Verb.Serial }
-    requires one { length command.now.rest.items ≡ 1 }
+    requires rest { MayHave Verb.Serial (length command.now.rest.items) }
     requires places { (1 ≤ command.now.places) × (command.now.places ≤ 65536) }
     ensures { Ends (Some (task_of command.now)) (F.source files.old) (F.source files.new) (K.taken out.old) (K.taken out.new) result.status result.history result.refusals }
 {
@@ -156,13 +181,29 @@ fn run_command<R: Threads + Wait + Sync, G: Ground, F: Files, K: Sink, T: Gate>(
     gate: &T,
 ) -> Outcome
     requires verb { command.now.verb ≡ Verb.Run }
-    requires some { 1 ≤ length command.now.rest.items }
-    requires few { length command.now.rest.items ≤ 64 }
+    requires rest { MayHave Verb.Run (length command.now.rest.items) }
     requires places { command.now.places ≤ 65536 }
     ensures { Ends (Some (task_of command.now)) (F.source files.old) (F.source files.new) (K.taken out.old) (K.taken out.new) result.status result.history result.refusals }
 {
     match read_input(alloc, files, command) {
         Ok(input) => run::<R, G, K, T>(rt, alloc, &input, command.places, out, gate),
+        Err(status) => nothing(alloc, status),
+    }
+}
+
+fn step_command<F: Files, K: Sink>(
+    alloc: Global,
+    command: &Command<'_>,
+    files: &mut F,
+    out: &mut K,
+) -> Outcome
+    requires verb { command.now.verb ≡ Verb.Step }
+    requires rest { MayHave Verb.Step (length command.now.rest.items) }
+    requires places { command.now.places ≤ 65536 }
+    ensures { Ends (Some (task_of command.now)) (F.source files.old) (F.source files.new) (K.taken out.old) (K.taken out.new) result.status result.history result.refusals }
+{
+    match read_input(alloc, files, command) {
+        Ok(input) => step(alloc, &input, command.places, out),
         Err(status) => nothing(alloc, status),
     }
 }
@@ -174,7 +215,7 @@ fn show_command<F: Files, K: Sink>(
     out: &mut K,
 ) -> Outcome
     requires verb { command.now.verb ≡ Verb.Show }
-    requires few { length command.now.rest.items ≤ 64 }
+    requires rest { MayHave Verb.Show (length command.now.rest.items) }
     ensures { Ends (Some (task_of command.now)) (F.source files.old) (F.source files.new) (K.taken out.old) (K.taken out.new) result.status result.history result.refusals }
 {
     match read_input(alloc, files, command) {
@@ -203,6 +244,7 @@ fn run_still<F: Files, K: Sink>(alloc: Global, words: &Words, files: &mut F, out
     match command.verb {
         Verb::Serial => serial_command(alloc, &command, files, out),
         Verb::Run => nothing(alloc, Status::Usage),
+        Verb::Step => step_command(alloc, &command, files, out),
         Verb::Show => show_command(alloc, &command, files, out),
         Verb::Work => work_command(alloc, &command, out),
     }
@@ -239,6 +281,7 @@ fn domlock_over<R: Threads + Wait + Sync, G: Ground, F: Files, K: Sink, T: Gate>
     match command.verb {
         Verb::Run => run_command::<R, G, F, K, T>(rt, alloc, &command, files, out, gate),
         Verb::Serial => domlock_still(alloc, words, files, out),
+        Verb::Step => domlock_still(alloc, words, files, out),
         Verb::Show => domlock_still(alloc, words, files, out),
         Verb::Work => domlock_still(alloc, words, files, out),
     }

@@ -49,6 +49,8 @@ pub enum Verb {
     Serial,
     /// Runs up to 64 operation files side by side.
     Run,
+    /// Gives the callers of up to 64 operation files steps by a schedule, and traces them.
+    Step,
     /// Prints a module in its canonical form, and its code.
     Show,
     /// Runs the operations that a seed gives, and prints a summary.
@@ -171,6 +173,11 @@ fn row_of(word: &str) -> Option<CommandRow>
             fewest: 1,
             most: 64,
         }),
+        "step" => Some(CommandRow {
+            verb: Verb::Step,
+            fewest: 2,
+            most: 65,
+        }),
         "show" => Some(CommandRow {
             verb: Verb::Show,
             fewest: 0,
@@ -237,9 +244,7 @@ fn fault_of(kind: ErrorKind) -> WordsFault
 pub fn command_of(alloc: Global, words: &Words) -> Result<Command<'_>, WordsFault>
     ensures ok { IfOk result (λ command. task_of_words words.entry.now ≡ Some (task_of command)) }
     ensures usage { IsErrOf result WordsFault.Usage → task_of_words words.entry.now ≡ None }
-    ensures one { IfOk result (λ command. command.verb ≡ Verb.Serial → length command.rest.items ≡ 1) }
-    ensures some { IfOk result (λ command. command.verb ≡ Verb.Run → 1 ≤ length command.rest.items) }
-    ensures few { IfOk result (λ command. length command.rest.items ≤ 64) }
+    ensures rest { IfOk result (λ command. spec.MayHave command.verb (length command.rest.items)) }
     ensures places { IfOk result (λ command. (1 ≤ command.places) × (command.places ≤ 65536)) }
 {
     let Ok(line) = command_line(alloc) else {

@@ -5,14 +5,8 @@ ghost use Rattle.dl_ir.specs.CallForms.{AreCallsOf};
 ghost use Rattle.dl_ir.specs.Checked.{IsChecked};
 ghost use Rattle.dl_ir.specs.Cover.{Covers};
 ghost use Rattle.dl_ir.specs.Heap.{start_objects};
-ghost use Rattle.dl_grammar.specs.Texts.{Spells, IsSyntaxFault};
-ghost use Rattle.dl_grammar.specs.declared.fault.SyntaxFault.{SyntaxFault as SyntaxFaultOf};
-ghost use Rattle.dl_grammar.specs.declared.tree.Tree.{Tree as TreeOf};
 ghost use Rattle.dl_history.specs.Histories.{joined};
-ghost use Rattle.dl_ir.specs.declared.modules.Module.{Module as ModuleOf};
 ghost use Rattle.dl_shape.specs.Replay.{IsLegal};
-ghost use Rattle.dl_types.specs.Rules.{Types, IsTypeFault};
-ghost use Rattle.dl_types.specs.declared.fault.TypeFault.{TypeFault as TypeFaultOf};
 ghost use Rattle.dl_work.specs.Summary.{summary};
 ghost use Rattle.dl_work.specs.Works.{TakesWork};
 ghost use Rattle.dl_command.specs.Promise.{Prints};
@@ -27,6 +21,7 @@ use dl_io::{Failed, Sink};
 use dl_ir::{Calls, Heap, Module};
 use dl_modules::SKEW;
 use dl_replay::{ReplayFault, covered_entries_name_operations, replay};
+use dl_skew::skew_takes_work;
 use dl_text::Out;
 use dl_types::{TypeFault, check};
 use dl_work::{Figures, Work, make_work, write_summary};
@@ -38,12 +33,6 @@ pub struct Worked {
     pub run: Run,
     pub figures: Figures,
 }
-
-fn skew_takes_work()
-    ensures no_syntax_fault { (fault : SyntaxFaultOf) → ¬ IsSyntaxFault SKEW.now fault }
-    ensures no_type_fault { (tree : TreeOf) (fault : TypeFaultOf) → Spells SKEW.now tree → ¬ IsTypeFault tree fault }
-    ensures found { (tree : TreeOf) (source : ModuleOf) → Spells SKEW.now tree → Types tree source → TakesWork source }
-{}
 
 // The module of generated work. Its text is that of a module that takes such work, so that only memory can be wanting.
 fn work_module(alloc: Global) -> Result<Module, AllocError>

@@ -1,5 +1,5 @@
-use Rattle.dl_command.proofs.LoadingLemmas.{ops_cause}
+use Rattle.dl_command.proofs.LoadingLemmas.{calls_cause}
 use Rattle.dl_command.proofs.loading.parse_calls.Goals as goal
 
 pub returns-in-Err-clause-cause : goal.returns-in-Err-clause-cause
-returns-in-Err-clause-cause c = ops_cause c.in-Err.ensures.fault c.status_of.ensures
+returns-in-Err-clause-cause c = rw c.status_of_calls.ensures (calls_cause c.in-Err.fault c.in-Err.ensures.fault)

@@ -1,17 +1,32 @@
+use Rattle.std.proofs.Common.{◌≡◌, ◌<◌, ◌∙◌, map, ap, subst, sym}
+use Rattle.std.specs.Prelude.{All}
 use Rattle.dl_command.specs.Causes.{Refuses}
-use Rattle.dl_command.proofs.FileLemmas.{files_before, refuses_calls}
+use Rattle.dl_command.specs.Wanted.{Wanted, wanted, wanted_held}
+use Rattle.dl_command.specs.Words.{task_of}
+use Rattle.dl_command.proofs.FileLemmas.{files_before, refuses_behind}
+use Rattle.dl_command.proofs.WantedLemmas.{held_numbered, wanted_numbered}
 use Rattle.dl_command.proofs.loading.read_input.Goals as goal
 
 pub returns-in-Err-clause-cause : goal.returns-in-Err-clause-cause
 returns-in-Err-clause-cause g c = Refuses.no_module c.in-Err.ensures.cause
 
-pub returns-in-Ok-read_all_calls-clause-spells : goal.returns-in-Ok-read_all_calls-clause-spells
-returns-in-Ok-read_all_calls-clause-spells g c = record {
-  source_file = c.in-Ok.ensures.ok;
-  call_files = let ok = rw c.as_slice.ensures.value at c.in-Ok-read_all_calls.ensures.ok in files_before _ _ _ _ _ c.in-Ok.ensures.after.same ok;
-}
+pub read_behind-requires-clause-numbers : goal.read_behind-requires-clause-numbers
+read_behind-requires-clause-numbers g c =
+    let task = task_of c.args.command.now in
+    let held : map wanted_held c.as_slice.result.now ≡ wanted task = ap (map wanted_held) c.as_slice.ensures.value ∙ c.in-Ok-wanted_files.ensures in
+    held_numbered c.as_slice.result.now (subst (All (λ (file : Wanted). 0 < file.number)) (sym held) (wanted_numbered task.verb task.rest))
 
-pub returns-in-Err-read_all_calls-clause-cause : goal.returns-in-Err-read_all_calls-clause-cause
-returns-in-Err-read_all_calls-clause-cause g c =
-    let cause = rw c.as_slice.ensures.value at c.in-Err-read_all_calls.ensures.cause in
-    refuses_calls c.in-Ok.ensures.after c.in-Ok.ensures.ok cause
+pub returns-in-Ok-read_behind-clause-spells : goal.returns-in-Ok-read_behind-clause-spells
+returns-in-Ok-read_behind-clause-spells g c =
+    let held : map wanted_held c.as_slice.result.now ≡ wanted (task_of c.args.command.now) = ap (map wanted_held) c.as_slice.ensures.value ∙ c.in-Ok-wanted_files.ensures in
+    let ok = rw held at c.in-Ok-read_behind.ensures.ok in
+    record {
+      source_file = rw (c.read_behind.ensures.tree ∙ c.new-input.ensures.tree, c.read_behind.ensures.source ∙ c.new-input.ensures.source) c.in-Ok.ensures.ok;
+      behind = files_before _ _ _ _ _ _ c.in-Ok.ensures.after.same ok;
+    }
+
+pub returns-clause-cause : goal.returns-clause-cause
+returns-clause-cause g c =
+    let held : map wanted_held c.as_slice.result.now ≡ wanted (task_of c.args.command.now) = ap (map wanted_held) c.as_slice.ensures.value ∙ c.in-Ok-wanted_files.ensures in
+    let cause = rw (held, c.read_behind.ensures.source ∙ c.new-input.ensures.source) at c.in-Err-read_behind.ensures.cause in
+    refuses_behind c.in-Ok.ensures.after c.in-Ok.ensures.ok cause

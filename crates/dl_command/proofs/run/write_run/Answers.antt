@@ -1,12 +1,8 @@
-use Rattle.dl_command.proofs.WritingEnds.{written, cut_off}
+use Rattle.dl_command.proofs.WritingEnds.{taken_whole, taken_part}
 use Rattle.dl_command.proofs.run.write_run.Goals as goal
 
-pub returns-in-Ok-flush : goal.returns-in-Ok-flush
-returns-in-Ok-flush g c =
-    let put = rw (c.new-out.ensures, c.as_slice.ensures.value, c.requires.refusals.0, c.requires.heap) at c.in-Ok.ensures.ok in
-    written _ _ _ _ _ _ put c.in-Ok-flush.ensures.puts.ok c.in-Ok-flush.ensures.empty
+pub returns-in-Ok : goal.returns-in-Ok
+returns-in-Ok g c = let put = rw c.new-out.ensures at c.in-Ok.ensures.puts.ok in taken_whole _ _ _ _ put c.in-Ok.ensures.empty
 
-pub returns-in-Err-flush : goal.returns-in-Err-flush
-returns-in-Err-flush g c =
-    let put = rw (c.new-out.ensures, c.as_slice.ensures.value, c.requires.refusals.0, c.requires.heap) at c.in-Ok.ensures.ok in
-    cut_off _ _ _ _ _ put c.in-Err-flush.ensures.puts.err.1
+pub returns-in-Err : goal.returns-in-Err
+returns-in-Err g c = let broke = rw c.new-out.ensures at c.in-Err.ensures.puts.err.1 in taken_part _ _ _ broke

@@ -21,6 +21,12 @@ returns-in-Serial g c =
     let still = still_wish_is c.args.words.now (task_of c.in-Ok.command) verbs.Serial c.in-Ok.ensures.ok c.in-Serial.is in
     rw (is ∙ sym still) c.domlock_still.ensures
 
+pub returns-in-Step : goal.returns-in-Step
+returns-in-Step g c =
+    let is = wish_is c.args.words.now (task_of c.in-Ok.command) verbs.Step c.in-Ok.ensures.ok c.in-Step.is in
+    let still = still_wish_is c.args.words.now (task_of c.in-Ok.command) verbs.Step c.in-Ok.ensures.ok c.in-Step.is in
+    rw (is ∙ sym still) c.domlock_still-in-Step.ensures
+
 pub returns-in-Show : goal.returns-in-Show
 returns-in-Show g c =
     let is = wish_is c.args.words.now (task_of c.in-Ok.command) verbs.Show c.in-Ok.ensures.ok c.in-Show.is in

@@ -19,6 +19,9 @@ pub returns-in-Run : goal.returns-in-Run
 returns-in-Run g c = let n = c.nothing-in-Run.ensures in
     rw (still_wish_is c.args.words.now (task_of c.in-Ok.command) verbs.Run c.in-Ok.ensures.ok c.in-Run.is) (Ends.usage n.status refl refl refl n.history n.refusals)
 
+pub returns-in-Step : goal.returns-in-Step
+returns-in-Step g c = rw (still_wish_is c.args.words.now (task_of c.in-Ok.command) verbs.Step c.in-Ok.ensures.ok c.in-Step.is) c.step_command.ensures
+
 pub returns-in-Show : goal.returns-in-Show
 returns-in-Show g c = rw (still_wish_is c.args.words.now (task_of c.in-Ok.command) verbs.Show c.in-Ok.ensures.ok c.in-Show.is) c.show_command.ensures
 

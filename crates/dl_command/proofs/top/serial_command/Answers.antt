@@ -1,14 +1,17 @@
-use Rattle.std.proofs.Common.{◌∙◌, refl}
+use Rattle.std.proofs.Common.{◌≡◌, ◌∙◌, refl, map}
 use Rattle.std.proofs.lemmas.List.{length-map}
 use Rattle.dl_command.specs.Promise.{Ends}
+use Rattle.dl_command.specs.Texts.{AreFiles, behind_of, nothing_behind}
+use Rattle.dl_command.specs.Wanted.{operations_from, wanted_by}
 use Rattle.dl_command.specs.Words.{task_of}
 use Rattle.dl_command.proofs.EndLemmas.{ends_finished}
-use Rattle.dl_command.proofs.FileLemmas.{files_length}
+use Rattle.dl_command.proofs.FileLemmas.{operations_behind}
 use Rattle.dl_command.proofs.top.serial_command.Goals as goal
 
 pub serial-requires-clause-one : goal.serial-requires-clause-one
 serial-requires-clause-one g c =
-    files_length _ _ _ _ c.in-Ok.ensures.spells.call_files ∙ (length-map c.args.command.now.rest.items (λ path. path.now) ∙ c.requires.one)
+    let behind = rw c.requires.verb at c.in-Ok.ensures.spells.behind in
+    (operations_behind _ _ _ _ behind).all ∙ (length-map c.args.command.now.rest.items (λ path. path.now) ∙ c.requires.rest)
 
 pub returns-in-Ok : goal.returns-in-Ok
 returns-in-Ok g c = ends_finished (task_of c.args.command.now) refl c.in-Ok.ensures.spells c.in-Ok.ensures.within (rw c.requires.verb c.serial.ensures)

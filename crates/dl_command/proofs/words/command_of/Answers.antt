@@ -4,7 +4,7 @@ use Rattle.clap.specs.Words.{found_of, rows_of}
 use Rattle.clap.specs.declared.error.kind.ErrorKind.TheVariants as kinds
 use Rattle.dl_command.specs.Words.{task_of_matches, task_of_words}
 use Rattle.dl_command.specs.declared.words.WordsFault.TheVariants as faults
-use Rattle.dl_command.proofs.WordLemmas.{given_few, given_one, given_places, given_some, refuses_words, rows_are, rows_in_range, same_words, takes_words, words_give}
+use Rattle.dl_command.proofs.WordLemmas.{given_places, given_rest, refuses_words, rows_are, rows_in_range, same_words, takes_words, words_give}
 use Rattle.dl_command.proofs.words.command_of.Goals as goal
 
 pub returns-in-Ok-try_get_matches_from-clause-ok : goal.returns-in-Ok-try_get_matches_from-clause-ok
@@ -27,17 +27,9 @@ returns-in-Ok-try_get_matches_from-clause-usage c =
     (words_give words (rows_of (found_of m)) (takes_words c.in-Ok.line words c.in-Ok.ensures m facts.kinds) (rows_are c.in-Ok.line words c.in-Ok.ensures m facts.matches)) in
     λ is. gives ∙ c.command_given.ensures.usage is
 
-pub returns-in-Ok-try_get_matches_from-clause-one : goal.returns-in-Ok-try_get_matches_from-clause-one
-returns-in-Ok-try_get_matches_from-clause-one c =
-    given_one c.command_given.result (rows_of (found_of c.in-Ok-try_get_matches_from.matches)) c.command_given.ensures.ok
-
-pub returns-in-Ok-try_get_matches_from-clause-some : goal.returns-in-Ok-try_get_matches_from-clause-some
-returns-in-Ok-try_get_matches_from-clause-some c =
-    given_some c.command_given.result (rows_of (found_of c.in-Ok-try_get_matches_from.matches)) c.command_given.ensures.ok
-
-pub returns-in-Ok-try_get_matches_from-clause-few : goal.returns-in-Ok-try_get_matches_from-clause-few
-returns-in-Ok-try_get_matches_from-clause-few c =
-    given_few c.command_given.result (rows_of (found_of c.in-Ok-try_get_matches_from.matches)) c.command_given.ensures.ok
+pub returns-in-Ok-try_get_matches_from-clause-rest : goal.returns-in-Ok-try_get_matches_from-clause-rest
+returns-in-Ok-try_get_matches_from-clause-rest c =
+    given_rest c.command_given.result (rows_of (found_of c.in-Ok-try_get_matches_from.matches)) c.command_given.ensures.ok
 
 pub returns-in-Ok-try_get_matches_from-clause-places : goal.returns-in-Ok-try_get_matches_from-clause-places
 returns-in-Ok-try_get_matches_from-clause-places c =

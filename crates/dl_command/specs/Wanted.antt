@@ -1,0 +1,44 @@
+-- The files that a command wants behind the module, in the order in which they are read.
+use Rattle.std.specs.Prelude.{ℕ, ◌+◌, List, [], ◌∷◌, length, map}
+use Rattle.dl_command.specs.declared.wanted.Form.{Form}
+use Rattle.dl_command.specs.declared.wanted.Form.TheVariants as forms
+use Rattle.dl_command.specs.declared.wanted.WantedFile.{WantedFile as Held}
+use Rattle.dl_command.specs.declared.words.Verb.{Verb}
+use Rattle.dl_command.specs.declared.words.Verb.TheVariants as verbs
+use Rattle.dl_command.specs.Words.{Task, Text}
+
+-- a file that is wanted: its number, what it is to be, and its path
+pub record Wanted : Type 0 where
+  pub number : ℕ
+  pub form : Form
+  pub path : Text
+
+-- operation files at these paths, numbered from this number on
+abbrev pub operations_from : ℕ → List Text → List Wanted
+operations_from number [] = []
+operations_from number (path ∷ paths) = record { number = number; form = forms.Operations; path = path } ∷ operations_from (number + 1) paths
+
+-- what the words REST of a command are the paths of: operation files, and for `step` a schedule before them, which names their callers
+abbrev pub wanted_by : Verb → List Text → List Wanted
+wanted_by verbs.Serial rest = operations_from 1 rest
+wanted_by verbs.Run rest = operations_from 1 rest
+wanted_by verbs.Step [] = []
+wanted_by verbs.Step (path ∷ paths) = record { number = 1; form = forms.Schedule (length paths); path = path } ∷ operations_from 2 paths
+wanted_by verbs.Show rest = operations_from 1 rest
+wanted_by verbs.Work rest = []
+
+-- the files that a command wants behind the module, in the order in which they are read
+abbrev pub wanted : Task → List Wanted
+wanted task = wanted_by task.verb task.rest
+
+-- the numbers of all its files in that order; the module is file 0
+abbrev pub numbers_of : Task → List ℕ
+numbers_of task = 0 ∷ map (λ (file : Wanted). file.number) (wanted task)
+
+-- the paths of all its files
+abbrev pub paths_of : Task → List Text
+paths_of task = task.first ∷ map (λ (file : Wanted). file.path) (wanted task)
+
+-- a file that is wanted, as the program holds it
+abbrev pub wanted_held : Held → Wanted
+wanted_held file = record { number = file.number; form = file.form; path = file.path.now }

@@ -1,0 +1,139 @@
+//! Runs of the calls of a command by a schedule.
+
+ghost use Rattle.std.specs.Prelude.{◌≡◌, ◌≤◌, ◌++◌, ℕ, false, All, IfOk, OnOk, OnErr, length};
+ghost use Rattle.dl_io.specs.Taken.{Taken};
+ghost use Rattle.dl_ir.specs.CallForms.{AreCallsOf};
+ghost use Rattle.dl_ir.specs.Checked.{IsChecked};
+ghost use Rattle.dl_ir.specs.Cover.{Covers};
+ghost use Rattle.dl_ir.specs.Heap.{start_objects};
+ghost use Rattle.dl_shape.specs.Pool.{moves_of, in_rising_versions};
+ghost use Rattle.dl_shape.specs.Replay.{replayed};
+ghost use Rattle.dl_history.specs.Histories.{joined, AreByCaller};
+ghost use Rattle.dl_text.specs.Writing.{Breaks, Passes, nothing};
+ghost use Rattle.dl_schedule.specs.Rules.{IsGiveOf};
+ghost use Rattle.dl_trace.specs.Runs.{Run as ScheduledRun};
+ghost use Rattle.dl_command.specs.Promise.{Finishes, IsScheduled, Prints, report_of};
+ghost use Rattle.dl_command.specs.Scheduled.{IsAtEnd, IsReady, IsRoom};
+ghost use Rattle.dl_command.specs.Words.{Text};
+
+use crate::loading::Input;
+use crate::run::{Run, put_run, sizes_of, total_of};
+use crate::status::Status;
+use crate::words::Verb;
+use dl_core::Core;
+use dl_history::{MergeRoom, gather, merge};
+use dl_instr::{codes_of_modules, instrument};
+use dl_io::{Failed, Sink};
+use dl_ir::Refusal;
+use dl_text::Out;
+use dl_trace::{Counts, run_schedule, scheduled_runs_are_over};
+use sqlite_items::Items;
+use std::alloc::{AllocError, Global};
+
+/// Room for what a run leaves: its history, and its refusals.
+#[derive(Drop)]
+pub struct Room {
+    pub merging: MergeRoom,
+    pub refusals: Vec<Refusal>,
+}
+
+/// All that a scheduled run takes of memory: the machine at its start, and room for what it leaves.
+#[derive(Drop)]
+pub struct Ready {
+    pub core: Core,
+    pub room: Room,
+}
+
+/// Takes all memory of a scheduled run of calls from the start heap of their module, with so many hidden objects at a time
+/// at most.
+pub fn make_ready(alloc: Global, input: &Input, places: u32) -> Result<Ready, AllocError>
+    requires places { places ≤ 65536 }
+    requires checked { IsChecked input.now.source }
+    requires some { 1 ≤ length input.now.all.items }
+    requires few { length input.now.all.items ≤ 64 }
+    requires calls { All (AreCallsOf input.now.source) input.now.all.items }
+    ensures { IfOk result (IsReady input.now places) }
+{
+    codes_of_modules();
+    let files = input.all.as_slice();
+    let code = instrument(alloc, &input.source)?;
+    let sizes = sizes_of(alloc, files)?;
+    let total = total_of(files);
+    let merging = MergeRoom::new(alloc, total)?;
+    let refusals = Vec::with_capacity(alloc, total as usize)?;
+    let core = Core::start(alloc, code, places, &sizes)?;
+    Ok(Ready {
+        core,
+        room: Room { merging, refusals },
+    })
+}
+
+/// What the machine leaves at the end of a scheduled run. It takes no memory.
+pub fn close_run(input: &Input, core: Core, room: Room) -> Run
+    requires end { (places : ℕ) × (end : ScheduledRun) × IsAtEnd input.now places end core }
+    requires room { IsRoom input.now room }
+    requires calls { All (AreCallsOf input.now.source) input.now.all.items }
+    requires callers { All (IsGiveOf (length input.now.all.items)) input.now.schedule }
+    ensures scheduled { (places : ℕ) (end : ScheduledRun) → IsAtEnd input.now places end core → IsScheduled input.now.source (start_objects input.now.source) input.now.schedule input.now.all.items places end result.history result.refusals }
+    ensures heap { result.closed.heap.objects ≡ replayed input.now.source input.now.all.items (start_objects input.now.source) result.history.entries }
+    ensures moves { result.history.moves ≡ in_rising_versions (moves_of input.now.source input.now.all.items result.history.entries) }
+    ensures refusals { (joined result.closed.refusals ≡ result.refusals) × AreByCaller result.closed.refusals }
+    ensures covers { Covers input.now.all.items result.history.entries result.refusals }
+{
+    scheduled_runs_are_over();
+    let Room {
+        merging,
+        mut refusals,
+    } = room;
+    let closed = core.close();
+    let history = merge(&input.source, input.all.as_slice(), &closed, merging);
+    gather(closed.refusals.as_slice(), &mut refusals);
+    Run {
+        history,
+        refusals: Items::from_vec(refusals),
+        closed,
+    }
+}
+
+// Writes the report of a run behind its trace, where that could be put.
+fn write_behind<K: Sink>(
+    traced: Result<Counts, Failed>,
+    input: &Input,
+    run: &Run,
+    out: &mut Out,
+    sink: &mut K,
+) -> Status
+    requires works { OnOk traced (out.old.failed ≡ false) }
+    requires few { length input.now.all.items ≤ 64 }
+    requires calls { All (AreCallsOf input.now.source) input.now.all.items }
+    requires covers { Covers input.now.all.items run.now.history.entries run.now.refusals }
+    requires heap { run.now.closed.heap.objects ≡ replayed input.now.source input.now.all.items (start_objects input.now.source) run.now.history.entries }
+    requires moves { run.now.history.moves ≡ in_rising_versions (moves_of input.now.source input.now.all.items run.now.history.entries) }
+    requires refusals { (joined run.now.closed.refusals ≡ run.now.refusals) × AreByCaller run.now.closed.refusals }
+    ensures { (start : Taken) (text : Text) → OnOk traced (Passes start nothing text (K.taken sink.old) out.old) → OnErr traced (Breaks start nothing text (K.taken sink.old)) → Prints result (text ++ report_of input.now.source (start_objects input.now.source) input.now.all.items run.now.history.entries run.now.refusals) start (K.taken sink.new) }
+{
+    match traced {
+        Ok(_) => match put_run(input, run, out, sink) {
+            Ok(()) => Status::Done,
+            Err(Failed) => Status::WriteFault,
+        },
+        Err(Failed) => Status::WriteFault,
+    }
+}
+
+/// Runs calls by their schedule, and writes the trace and the report. Where the sink fails the run still goes to its end.
+pub fn run_steps<K: Sink>(input: &Input, ready: Ready, sink: &mut K) -> (Status, Run)
+    requires ready { (places : ℕ) × IsReady input.now places ready }
+    requires few { length input.now.all.items ≤ 64 }
+    requires calls { All (AreCallsOf input.now.source) input.now.all.items }
+    requires callers { All (IsGiveOf (length input.now.all.items)) input.now.schedule }
+    ensures { (places : ℕ) → IsReady input.now places ready → Finishes Verb.Step input.now places (K.taken sink.old) (K.taken sink.new) result.0 result.1.history result.1.refusals }
+{
+    let Ready { mut core, room } = ready;
+    let mut out = Out::new();
+    let files = input.all.as_slice();
+    let traced = run_schedule(&mut core, files, &input.schedule, &mut out, sink);
+    let run = close_run(input, core, room);
+    let status = write_behind(traced, input, &run, &mut out, sink);
+    (status, run)
+}
