@@ -154,6 +154,7 @@ module _ (source : Module) (all : List (List Call)) (places : ℕ) (gives : List
     where
       scheduled : ScheduleRun (plan_from_start source all places) all gives ran.end
       scheduled = subst (λ (p : Plan). ScheduleRun p all gives ran.end) at.plan_is ran.run
+
       named : All (λ (give : Give). IsCaller (plan_from_start source all places) give.caller) gives
       named = λ k d within.
           let who = (at.callers k d within).caller in
