@@ -14,5 +14,8 @@ mod CountLemmas
 mod PlanLemmas
 mod OverLemmas
 mod StepLemmas
+mod LeftLemmas
 mod PromiseLemmas
+mod NumberLemmas
+mod WorkLemmas
 pub mod Sent

@@ -66,6 +66,7 @@ wanted_numbered verbs.Run rest = operations_numbered 1 rest (omega arith)
 wanted_numbered verbs.Step [] = All-nil HasNumber
 wanted_numbered verbs.Step (path ∷ paths) = All-cons HasNumber _ (operations_from 2 paths) (omega arith) (operations_numbered 2 paths (omega arith))
 wanted_numbered verbs.Show rest = operations_numbered 1 rest (omega arith)
+wanted_numbered verbs.Work rest = All-nil HasNumber
 
 -- what holds of the files as they are seen holds of them as they are held
 pub held_numbered : (files : List Held) → All (λ (file : Wanted). 0 < file.number) (map wanted_held files) → All (λ (file : Held). 0 < file.number) files

@@ -295,19 +295,23 @@ asked line row task by may =
     (subst (λ verb. MayHave verb (length task.rest)) (sym asks.2) (may asks.0 asks.1), asks.3)
 
 table_asks : (line : Line) (task : Task) → task_of_line line ≡ Some task → IsAsked task × (task.places ≡ line.places)
-table_asks line task given = go (bytes_eq (codes "serial") line.command) refl (bytes_eq (codes "run") line.command) refl (bytes_eq (codes "step") line.command) refl (bytes_eq (codes "show") line.command) refl
+table_asks line task given =
+    go (bytes_eq (codes "serial") line.command) refl (bytes_eq (codes "run") line.command) refl (bytes_eq (codes "step") line.command) refl (bytes_eq (codes "show") line.command) refl
+    (bytes_eq (codes "work") line.command) refl
   where
     go : (a : Bool) → bytes_eq (codes "serial") line.command ≡ a → (r : Bool) → bytes_eq (codes "run") line.command ≡ r → (s : Bool) → bytes_eq (codes "step") line.command ≡ s
-        → (b : Bool) → bytes_eq (codes "show") line.command ≡ b → IsAsked task × (task.places ≡ line.places)
-    go true serial r run s step b show =
+        → (b : Bool) → bytes_eq (codes "show") line.command ≡ b → (d : Bool) → bytes_eq (codes "work") line.command ≡ d → IsAsked task × (task.places ≡ line.places)
+    go true serial r run s step b show d work =
         asked line (record { verb = verbs.Serial; fewest = 1; most = 1 }) task (rw serial at given) (λ fewest most. omega (arith, fewest, most))
-    go false serial true run s step b show =
+    go false serial true run s step b show d work =
         asked line (record { verb = verbs.Run; fewest = 1; most = 64 }) task (rw (serial, run) at given) (λ fewest most. (fewest, most))
-    go false serial false run true step b show =
+    go false serial false run true step b show d work =
         asked line (record { verb = verbs.Step; fewest = 2; most = 65 }) task (rw (serial, run, step) at given) (λ fewest most. (fewest, most))
-    go false serial false run false step true show =
+    go false serial false run false step true show d work =
         asked line (record { verb = verbs.Show; fewest = 0; most = 0 }) task (rw (serial, run, step, show) at given) (λ fewest most. omega (arith, most))
-    go false serial false run false step false show = let none : None ≡ Some task = rw (serial, run, step, show) at given in absurd (cc)
+    go false serial false run false step false show true work =
+        asked line (record { verb = verbs.Work; fewest = 2; most = 2 }) task (rw (serial, run, step, show, work) at given) (λ fewest most. omega (arith, fewest, most))
+    go false serial false run false step false show false work = let none : None ≡ Some task = rw (serial, run, step, show, work) at given in absurd (cc)
 
 -- what is asked of the command that the matches give
 pub command_asks : (rows : List Row) (task : Task) → task_of_matches rows ≡ Some task

@@ -87,13 +87,14 @@ pub record Traces (source : Module) (heap : Objects) (gives : List Give) (all : 
 
 -- what a command writes of what its files spell: `serial` and `run` the report of a run of the calls from the start heap; `step` the
 -- trace and the report of the scheduled run; and `show`, which carries out nothing, the canonical text of the tree and the listing of the
--- module's code
+-- module's code. `work` reads no file, and has a promise of its own
 abbrev pub Writes : Verb → Input → ℕ → Seen → List Refusal → Text → Type 0
 Writes verbs.Serial input places history refusals text = Reports input.source (start_objects input.source) input.all.items places history refusals text
 Writes verbs.Run input places history refusals text = Reports input.source (start_objects input.source) input.all.items places history refusals text
 Writes verbs.Step input places history refusals text = Traces input.source (start_objects input.source) input.schedule input.all.items places history refusals text
 Writes verbs.Show input places history refusals text =
     (history ≡ nothing_done) × (refusals ≡ []) × (text ≡ canonical input.tree ++ listing (code input.source))
+Writes verbs.Work input places history refusals text = ⊥
 
 -- there is a command, and its files spell a tree that is a module, and what stands behind it; the text is what the command writes of
 -- these, with this history and these refusals

@@ -25,6 +25,7 @@ wanted_by verbs.Run rest = operations_from 1 rest
 wanted_by verbs.Step [] = []
 wanted_by verbs.Step (path ∷ paths) = record { number = 1; form = forms.Schedule (length paths); path = path } ∷ operations_from 2 paths
 wanted_by verbs.Show rest = operations_from 1 rest
+wanted_by verbs.Work rest = []
 
 -- the files that a command wants behind the module, in the order in which they are read
 abbrev pub wanted : Task → List Wanted

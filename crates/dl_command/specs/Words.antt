@@ -84,13 +84,14 @@ line_of_matches rows = option_and_then (λ command. option_and_then (λ first. o
 
 -- the table of commands, a row each: the word COMMAND, what it asks for, and how many words REST has at least and at most;
 -- they are `serial MODULE OPERATIONS`, `run MODULE OPERATIONS..` and `step MODULE SCHEDULE OPERATIONS..` with up to 64 operation
--- files, and `show MODULE`
+-- files, `show MODULE`, and `work SEED COUNT CALLERS`
 abbrev pub table : List (Text × CommandRow)
 table =
     (codes "serial", record { verb = verbs.Serial; fewest = 1; most = 1 })
     ∷ (codes "run", record { verb = verbs.Run; fewest = 1; most = 64 })
     ∷ (codes "step", record { verb = verbs.Step; fewest = 2; most = 65 })
     ∷ (codes "show", record { verb = verbs.Show; fewest = 0; most = 0 })
+    ∷ (codes "work", record { verb = verbs.Work; fewest = 2; most = 2 })
     ∷ []
 
 -- the row of a word
@@ -131,6 +132,7 @@ unless_run verbs.Run task = None
 unless_run verbs.Serial task = Some task
 unless_run verbs.Step task = Some task
 unless_run verbs.Show task = Some task
+unless_run verbs.Work task = Some task
 
 -- the command that the words give, where they are good and are not `run`
 abbrev pub still_task_of_words : List Text → Option Task
@@ -147,6 +149,7 @@ MayHave verbs.Serial count = count ≡ 1
 MayHave verbs.Run count = (1 ≤ count) × (count ≤ 64)
 MayHave verbs.Step count = (2 ≤ count) × (count ≤ 65)
 MayHave verbs.Show count = count ≡ 0
+MayHave verbs.Work count = count ≡ 2
 
 -- how many bytes a file may have: the module fewer than the others
 abbrev pub limit_of : ℕ → ℕ

@@ -3,14 +3,17 @@
 #![tactic(auto)]
 
 mod loading;
+mod numbers;
 mod reading;
 mod run;
+mod scheduled;
 mod show;
 mod status;
 mod step;
 mod top;
 mod wanted;
 mod words;
+mod work;
 
 pub use status::{ModuleWhy, OpsWhy, Status, exit_code, status_line};
 pub use top::{Outcome, domlock, domlock_still};

@@ -1,18 +1,23 @@
 //! The top calls, whose contract is what the program promises.
 
 ghost use Rattle.std.specs.Prelude.{◌≡◌, ◌≤◌, ℕ, [], Some, All, length};
+ghost use Rattle.dl_io.specs.Source.{Source};
 ghost use Rattle.dl_ir.specs.CallForms.{AreCallsOf};
 ghost use Rattle.dl_ir.specs.Checked.{IsChecked};
-ghost use Rattle.dl_command.specs.Promise.{Finishes, Ends, KeepsPromise, nothing_done};
+ghost use Rattle.dl_command.specs.Promise.{Finishes, Ends, nothing_done};
 ghost use Rattle.dl_schedule.specs.Rules.{IsGiveOf};
-ghost use Rattle.dl_command.specs.Words.{MayHave, still_task_of_words, task_of, task_of_words};
+ghost use Rattle.dl_command.specs.Wishes.{Comes, Keeps, still_wish_of_words, wish_by, wish_of_words};
+ghost use Rattle.dl_command.specs.Words.{MayHave, task_of};
+ghost use Rattle.dl_command.specs.Work.{FinishesWork};
 
 use crate::loading::{Input, read_input};
+use crate::numbers::{Asked, asked_of};
 use crate::run::{run_input, run_over, write_run};
 use crate::show::write_shown;
 use crate::status::Status;
 use crate::step::{make_ready, run_steps};
 use crate::words::{Command, Verb, Words, command_of};
+use crate::work::{run_work, write_work};
 use dl_coarse::Coarse;
 use dl_core::{Core, Ground};
 use dl_history::History;
@@ -130,6 +135,26 @@ fn show<K: Sink>(alloc: Global, input: &Input, out: &mut K) -> Outcome
     }
 }
 
+// Runs the operations that a seed gives, and writes the summary.
+fn work<K: Sink>(alloc: Global, asked: Asked, places: u32, out: &mut K) -> Outcome
+    requires places { places ≤ 65536 }
+    requires some { (1 ≤ asked.count) × (1 ≤ asked.callers) }
+    requires few { (asked.count ≤ 65536) × (asked.callers ≤ 64) }
+    ensures { FinishesWork asked places (K.taken out.old) (K.taken out.new) result.status result.history result.refusals }
+{
+    match run_work(alloc, asked, places) {
+        Ok(worked) => {
+            let status = write_work(&worked, out);
+            Outcome {
+                status,
+                history: worked.run.history,
+                refusals: worked.run.refusals,
+            }
+        }
+        Err(_) => nothing(alloc, Status::Memory),
+    }
+}
+
 fn serial_command<F: Files, K: Sink>(
     alloc: Global,
     command: &Command<'_>,
@@ -199,8 +224,18 @@ fn show_command<F: Files, K: Sink>(
     }
 }
 
+fn work_command<K: Sink>(alloc: Global, command: &Command<'_>, out: &mut K) -> Outcome
+    requires places { command.now.places ≤ 65536 }
+    ensures { (files : Source) → Comes (wish_by Verb.Work (task_of command.now)) files files (K.taken out.old) (K.taken out.new) result.status result.history result.refusals }
+{
+    match asked_of(command.first, command.rest.as_slice()) {
+        Some(asked) => work(alloc, asked, command.places, out),
+        None => nothing(alloc, Status::Usage),
+    }
+}
+
 fn run_still<F: Files, K: Sink>(alloc: Global, words: &Words, files: &mut F, out: &mut K) -> Outcome
-    ensures { Ends (still_task_of_words words.now) (F.source files.old) (F.source files.new) (K.taken out.old) (K.taken out.new) result.status result.history result.refusals }
+    ensures { Comes (still_wish_of_words words.now) (F.source files.old) (F.source files.new) (K.taken out.old) (K.taken out.new) result.status result.history result.refusals }
 {
     let command = match command_of(alloc, words) {
         Ok(command) => command,
@@ -211,6 +246,7 @@ fn run_still<F: Files, K: Sink>(alloc: Global, words: &Words, files: &mut F, out
         Verb::Run => nothing(alloc, Status::Usage),
         Verb::Step => step_command(alloc, &command, files, out),
         Verb::Show => show_command(alloc, &command, files, out),
+        Verb::Work => work_command(alloc, &command, out),
     }
 }
 
@@ -222,7 +258,7 @@ pub fn domlock_still<F: Files, K: Sink>(
     files: &mut F,
     out: &mut K,
 ) -> Outcome
-    ensures { KeepsPromise (still_task_of_words words.now) (F.source files.old) (F.source files.new) (K.taken out.old) (K.taken out.new) result }
+    ensures { Keeps (still_wish_of_words words.now) (F.source files.old) (F.source files.new) (K.taken out.old) (K.taken out.new) result }
 {
     run_still(alloc, words, files, out)
 }
@@ -236,7 +272,7 @@ fn domlock_over<R: Threads + Wait + Sync, G: Ground, F: Files, K: Sink, T: Gate>
     out: &mut K,
     gate: &T,
 ) -> Outcome
-    ensures { KeepsPromise (task_of_words words.now) (F.source files.old) (F.source files.new) (K.taken out.old) (K.taken out.new) result }
+    ensures { Keeps (wish_of_words words.now) (F.source files.old) (F.source files.new) (K.taken out.old) (K.taken out.new) result }
 {
     let command = match command_of(alloc, words) {
         Ok(command) => command,
@@ -247,6 +283,7 @@ fn domlock_over<R: Threads + Wait + Sync, G: Ground, F: Files, K: Sink, T: Gate>
         Verb::Serial => domlock_still(alloc, words, files, out),
         Verb::Step => domlock_still(alloc, words, files, out),
         Verb::Show => domlock_still(alloc, words, files, out),
+        Verb::Work => domlock_still(alloc, words, files, out),
     }
 }
 
@@ -263,7 +300,7 @@ pub fn domlock<R: Threads + Wait + Sync, F: Files, K: Sink, T: Gate>(
     out: &mut K,
     gate: &T,
 ) -> Outcome
-    ensures { KeepsPromise (task_of_words words.now) (F.source files.old) (F.source files.new) (K.taken out.old) (K.taken out.new) result }
+    ensures { Keeps (wish_of_words words.now) (F.source files.old) (F.source files.new) (K.taken out.old) (K.taken out.new) result }
 {
     domlock_over::<R, OneTurn, F, K, T>(rt, alloc, words, files, out, gate)
 }

@@ -78,6 +78,7 @@ pub fn wanted_files<'a>(
         Verb::Serial | Verb::Run | Verb::Show => {
             add_operations(&mut wanted, 1, command.rest.as_slice())?
         }
+        Verb::Work => {}
     }
     Ok(wanted)
 }

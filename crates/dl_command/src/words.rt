@@ -53,6 +53,8 @@ pub enum Verb {
     Step,
     /// Prints a module in its canonical form, and its code.
     Show,
+    /// Runs the operations that a seed gives, and prints a summary.
+    Work,
 }
 
 /// What the program is to do, with the path of the module and those of the files behind it.
@@ -180,6 +182,11 @@ fn row_of(word: &str) -> Option<CommandRow>
             verb: Verb::Show,
             fewest: 0,
             most: 0,
+        }),
+        "work" => Some(CommandRow {
+            verb: Verb::Work,
+            fewest: 2,
+            most: 2,
         }),
         _ => None,
     }

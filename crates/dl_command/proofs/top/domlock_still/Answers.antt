@@ -1,5 +1,6 @@
-use Rattle.dl_command.proofs.PromiseLemmas.{ends_keeps}
+use Rattle.dl_command.specs.Wishes.{still_wish_of_words}
+use Rattle.dl_command.proofs.WorkLemmas.{comes_keeps}
 use Rattle.dl_command.proofs.top.domlock_still.Goals as goal
 
 pub returns : goal.returns
-returns g c = ends_keeps _ _ _ _ _ c.run_still.result c.run_still.ensures
+returns g c = comes_keeps (still_wish_of_words c.args.words.now) _ _ _ _ c.run_still.result c.run_still.ensures
