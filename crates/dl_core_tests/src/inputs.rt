@@ -1,6 +1,6 @@
 //! What the tests run: modules and calls, read from their texts, and the codes of modules.
 
-ghost use Rattle.std.specs.Prelude.{◌≡◌, ◌≤◌, All, IfOk, length};
+ghost use Rattle.std.specs.Prelude.{All, IfOk};
 ghost use Rattle.dl_instr.specs.Drops.{IsCodeOf};
 ghost use Rattle.dl_ir.specs.CallForms.{AreCallsOf};
 ghost use Rattle.dl_ir.specs.Checked.{IsChecked};
@@ -42,8 +42,7 @@ pub fn calls_of(alloc: Global, source: &Module, text: &[u8]) -> Result<Calls, Fa
 /// The calls of operation files, one file for each caller.
 pub fn files_of(alloc: Global, source: &Module, texts: &[&[u8]]) -> Result<Vec<Calls>, Fail>
     requires { IsChecked source.now }
-    ensures one_each { IfOk result (λ files. length files.items ≡ length texts.now) }
-    ensures calls { IfOk result (λ files. All (AreCallsOf source.now) files.items) }
+    ensures { IfOk result (λ files. All (AreCallsOf source.now) files.items) }
 {
     let mut files = Vec::new(alloc);
     'texts: for text in texts {

@@ -1,11 +1,10 @@
 //! What heaps have, as tables write it.
 
 use crate::told::{Named, name};
-use dl_ir::{Heap, Value};
-use std::process::Abort;
+use dl_ir::{Heap, Obj, Value};
 
 /// What a field holds.
-#[derive(Clone, Copy, Debug)]
+#[derive(Clone, Copy)]
 pub enum Held {
     Number(i64),
     Null,
@@ -24,42 +23,49 @@ fn value(held: Held) -> Value {
     }
 }
 
-fn has_fields(rt: &impl Abort, fields: &[Value], helds: &[Held]) {
-    assert_eq!(rt; fields.len(), helds.len());
-    for (field, held) in fields.iter().zip(helds) {
-        assert_eq!(rt; *field, value(*held));
+fn has_fields(fields: &[Value], helds: &[Held]) -> bool {
+    if fields.len() != helds.len() {
+        return false;
     }
+    for (field, held) in fields.iter().zip(helds) {
+        if *field != value(*held) {
+            return false;
+        }
+    }
+    true
 }
 
-/// Asserts that the heap has these objects and no others.
-pub fn has_things(rt: &impl Abort, heap: &Heap, things: &[Thing]) {
-    assert_eq!(rt; heap.len(), things.len());
+/// Whether the heap has these objects and no others.
+pub fn has_things(heap: &Heap, things: &[Thing]) -> bool {
+    if heap.len() != things.len() {
+        return false;
+    }
     for (named, sealed, helds) in things {
         match heap.get(name(*named)) {
-            Some(object) => {
-                assert_eq!(rt; object.sealed, *sealed, "at {named:?}");
-                has_fields(rt, object.fields.as_slice(), helds);
-            }
-            None => assert!(rt; false, "there is no object {named:?}"),
+            Some(object)
+                if object.sealed == *sealed && has_fields(object.fields.as_slice(), helds) => {}
+            _ => return false,
         }
     }
+    true
 }
 
-/// Asserts that two heaps have the same objects.
-pub fn are_same(rt: &impl Abort, heap: &Heap, other: &Heap) {
-    assert_eq!(rt; heap.len(), other.len());
+fn is_same(object: &Obj, other: &Obj) -> bool {
+    object.kind == other.kind
+        && object.sealed == other.sealed
+        && object.fields.as_slice() == other.fields.as_slice()
+}
+
+/// Whether two heaps have the same objects.
+pub fn are_same(heap: &Heap, other: &Heap) -> bool {
+    if heap.len() != other.len() {
+        return false;
+    }
     for (name, object) in heap.iter() {
         match other.get(name) {
-            Some(found) => {
-                assert_eq!(rt; object.kind, found.kind, "at {name:?}");
-                assert_eq!(rt; object.sealed, found.sealed, "at {name:?}");
-                assert_eq!(rt;
-                    object.fields.as_slice(),
-                    found.fields.as_slice(),
-                    "at {name:?}"
-                );
-            }
-            None => assert!(rt; false, "there is no object {name:?}"),
+            Some(found) if is_same(object, found) => {}
+            _ => return false,
         }
     }
+    true
 }

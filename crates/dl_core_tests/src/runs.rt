@@ -16,6 +16,7 @@ use dl_instr::Code;
 use dl_ir::{Call, Calls, Closed, Name};
 use std::alloc::{AllocError, Global};
 use std::marker::Model;
+use std::test::Fail;
 
 /// A machine on the way through operation files, one for each caller.
 #[derive(Drop)]
@@ -37,20 +38,21 @@ impl<'a> Model for Run<'a> {
 }
 
 impl<'a> Run<'a> {
-    /// A machine at the start of its run, for files of the code's module.
+    /// A machine at the start of its run, for at most 64 files of the code's module.
     pub fn start(
         alloc: Global,
         code: Code,
         files: &'a [Calls],
         places: u32,
-    ) -> Result<Run<'a>, AllocError>
+    ) -> Result<Run<'a>, Fail>
         requires code { (source : ModuleOf) × IsChecked source × IsCodeOf source code × All (AreCallsOf source) files.now }
-        requires some { 1 ≤ length files.now }
-        requires few { length files.now ≤ 64 }
         requires places { places ≤ 65536 }
     {
-        let sizes = sizes_of(alloc, files)?;
-        let core = Core::start(alloc, code, places, &sizes)?;
+        let count = files.len();
+        if count == 0 || count > 64 {
+            return Err(Fail::from("a run has 1 to 64 callers"));
+        }
+        let core = open(alloc, code, files, places)?;
         Ok(Run { core, files })
     }
 
@@ -88,6 +90,19 @@ impl<'a> Run<'a> {
             None
         }
     }
+}
+
+// A machine at the start of its run.
+fn open(alloc: Global, code: Code, files: &[Calls], places: u32) -> Result<Core, AllocError>
+    requires code { (source : ModuleOf) × IsChecked source × IsCodeOf source code × All (AreCallsOf source) files.now }
+    requires some { 1 ≤ length files.now }
+    requires few { length files.now ≤ 64 }
+    requires places { places ≤ 65536 }
+    ensures { IfOk result (λ core. IsUnderWay core files.now) }
+{
+    let sizes = sizes_of(alloc, files)?;
+    let core = Core::start(alloc, code, places, &sizes)?;
+    Ok(core)
 }
 
 // The number of operations of each file.

@@ -10,7 +10,7 @@ pub type Named = (u64, u32);
 pub type Moved = [u32; 3];
 
 /// What a caller answers.
-#[derive(Clone, Copy, Debug)]
+#[derive(Clone, Copy)]
 pub enum Told {
     /// So many places are reserved, which makes this version.
     Reserves(u32, u64),

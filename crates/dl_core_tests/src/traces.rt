@@ -10,18 +10,16 @@ use crate::told::Told::{
 };
 use crate::told::{Told, in_full, name};
 use dl_modules::{LISTS, SKEW};
-use std::process::Abort;
 use std::test::Fail;
 
-// Gives the callers steps, and compares what they answer.
-fn follow(rt: &impl Abort, run: &mut Run<'_>, table: &[(u32, Told)]) {
+// Gives the callers steps, and counts those before the first that answers otherwise.
+fn followed(run: &mut Run<'_>, table: &[(u32, Told)]) -> usize {
     for (at, (caller, told)) in table.iter().enumerate() {
-        assert_eq!(rt;
-            run.give(*caller),
-            Some(in_full(*caller, *told)),
-            "at step {at}"
-        );
+        if run.give(*caller) != Some(in_full(*caller, *told)) {
+            return at;
+        }
     }
+    table.len()
 }
 
 // Two callers meld two heaps into one another, and a third has no call. The second waits ten times for the first root.
@@ -79,11 +77,11 @@ fn crossing_roots(rt: HostRuntime) -> Result<(), Fail> {
     let source = module_of(alloc, SKEW)?;
     let files = files_of(alloc, &source, &[b"meld 0 1\n", b"meld 1 0\n", b""])?;
     let mut run = Run::start(alloc, plain(alloc, &source)?, &files, 4096)?;
-    follow(&rt, &mut run, &CROSSING);
+    assert_eq!(rt; followed(&mut run, &CROSSING), CROSSING.len());
     assert_eq!(rt; run.clock(), 2);
     assert_eq!(rt; run.version(), 0);
     let closed = run.close().ok_or("a caller has a call in hand")?;
-    has_things(&rt, &closed.heap, &EMPTY_HEAPS);
+    assert!(rt; has_things(&closed.heap, &EMPTY_HEAPS));
     assert_eq!(rt; closed.free, 4096);
     Ok(())
 }
@@ -199,11 +197,11 @@ fn every_event(rt: HostRuntime) -> Result<(), Fail> {
     let source = module_of(alloc, FOURS)?;
     let files = files_of(alloc, &source, &[b"build 0\ncut 0\nlook 0\n", b"build 0\n"])?;
     let mut run = Run::start(alloc, plain(alloc, &source)?, &files, 5)?;
-    follow(&rt, &mut run, &EVERY);
+    assert_eq!(rt; followed(&mut run, &EVERY), EVERY.len());
     assert_eq!(rt; run.clock(), 3);
     assert_eq!(rt; run.version(), 3);
     let closed = run.close().ok_or("a caller has a call in hand")?;
-    has_things(&rt, &closed.heap, &SEALED_LEFT);
+    assert!(rt; has_things(&closed.heap, &SEALED_LEFT));
     assert_eq!(rt; closed.free, 4);
     Ok(())
 }
@@ -312,10 +310,10 @@ fn list_moves_under_older_walk(rt: HostRuntime) -> Result<(), Fail> {
         ],
     )?;
     let mut run = Run::start(alloc, plain(alloc, &source)?, &files, 4096)?;
-    follow(&rt, &mut run, &PUSHED);
-    follow(&rt, &mut run, &MOVES);
+    assert_eq!(rt; followed(&mut run, &PUSHED), PUSHED.len());
+    assert_eq!(rt; followed(&mut run, &MOVES), MOVES.len());
     let closed = run.close().ok_or("a caller has a call in hand")?;
-    has_things(&rt, &closed.heap, &MOVED);
+    assert!(rt; has_things(&closed.heap, &MOVED));
     assert_eq!(rt; closed.free, 4094);
     Ok(())
 }
@@ -363,12 +361,12 @@ fn cut_waits_for_an_older_operation(rt: HostRuntime) -> Result<(), Fail> {
         &[b"push 0 7\npush 0 8\nbump 0 1\n", b"clear 0\n"],
     )?;
     let mut run = Run::start(alloc, plain(alloc, &source)?, &files, 4096)?;
-    follow(&rt, &mut run, &PUSHED);
+    assert_eq!(rt; followed(&mut run, &PUSHED), PUSHED.len());
     assert_eq!(rt; run.field_name(name((1, 1)), 1), b"next".as_slice());
-    follow(&rt, &mut run, &CUTS);
+    assert_eq!(rt; followed(&mut run, &CUTS), CUTS.len());
     assert!(rt; run.field_name(name((1, 1)), 1).is_empty());
     let closed = run.close().ok_or("a caller has a call in hand")?;
-    has_things(&rt, &closed.heap, &CLEARED);
+    assert!(rt; has_things(&closed.heap, &CLEARED));
     assert_eq!(rt; closed.free, 4096);
     Ok(())
 }
