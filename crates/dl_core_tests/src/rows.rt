@@ -13,6 +13,7 @@ use dl_ir::End::{
 use dl_ir::{Answer, Closed, End, Entry, Heap, Name, Refusal};
 use dl_modules::{LISTS, SKEW, TREAP};
 use dl_serial::{Served, run_calls};
+use sqlite_items::Items;
 use std::alloc::Global;
 use std::test::Fail;
 
@@ -463,17 +464,28 @@ fn has_answers(entries: &[Entry], answers: &[Said]) -> bool {
     true
 }
 
+// Whether a list of callers has one, whose entries these are.
+fn are_entries(lists: &[Items<Entry>], entries: &[Entry]) -> bool {
+    match lists.get(0) {
+        Some(list) => lists.len() == 1 && list.as_slice() == entries,
+        None => false,
+    }
+}
+
+// Whether a list of callers has one, whose refusals these are.
+fn are_refusals(lists: &[Items<Refusal>], refusals: &[Refusal]) -> bool {
+    match lists.get(0) {
+        Some(list) => lists.len() == 1 && list.as_slice() == refusals,
+        None => false,
+    }
+}
+
 // Whether the machine left what the operations leave one after another.
 fn left_the_same(heap: &Heap, served: &Served, closed: &Closed) -> bool {
-    match (closed.entries.as_slice(), closed.refusals.as_slice()) {
-        ([entries], [refusals]) => {
-            entries.as_slice() == served.entries.as_slice()
-                && refusals.as_slice() == served.refusals.as_slice()
-                && closed.free == served.free
-                && are_same(&closed.heap, heap)
-        }
-        _ => false,
-    }
+    are_entries(closed.entries.as_slice(), served.entries.as_slice())
+        && are_refusals(closed.refusals.as_slice(), served.refusals.as_slice())
+        && closed.free == served.free
+        && are_same(&closed.heap, heap)
 }
 
 // Whether the operations come to what the row says, one after another and on the machine.
