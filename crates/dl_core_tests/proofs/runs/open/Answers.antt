@@ -9,7 +9,7 @@ start-requires c =
     let of = c.requires.code.2 in
     let calls = c.requires.code.3 in
     let sizes : c.deref.result.now ≡ map length c.args.files.now = search rules in
-    record { plan = rw sizes starts_plan source c.args.code c.args.files.now c.args.places checked of calls c.requires.some c.requires.few c.requires.places }
+    record { plan = rw sizes (starts_plan source c.args.code c.args.files.now c.args.places checked of calls c.requires.some c.requires.few c.requires.places) }
 
 pub returns : goal.returns
 returns c =
