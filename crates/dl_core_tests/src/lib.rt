@@ -6,8 +6,6 @@ mod inputs;
 #[cfg(test)]
 mod objects;
 #[cfg(test)]
-mod rows;
-#[cfg(test)]
 mod runs;
 #[cfg(test)]
 mod told;

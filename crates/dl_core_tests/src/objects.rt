@@ -1,7 +1,7 @@
 //! What heaps have, as tables write it.
 
 use crate::told::{Named, name};
-use dl_ir::{Heap, Obj, Value};
+use dl_ir::{Heap, Value};
 
 /// What a field holds.
 #[derive(Clone, Copy)]
@@ -44,26 +44,6 @@ pub fn has_things(heap: &Heap, things: &[Thing]) -> bool {
         match heap.get(name(*named)) {
             Some(object)
                 if object.sealed == *sealed && has_fields(object.fields.as_slice(), helds) => {}
-            _ => return false,
-        }
-    }
-    true
-}
-
-fn is_same(object: &Obj, other: &Obj) -> bool {
-    object.kind == other.kind
-        && object.sealed == other.sealed
-        && object.fields.as_slice() == other.fields.as_slice()
-}
-
-/// Whether two heaps have the same objects.
-pub fn are_same(heap: &Heap, other: &Heap) -> bool {
-    if heap.len() != other.len() {
-        return false;
-    }
-    for (name, object) in heap.iter() {
-        match other.get(name) {
-            Some(found) if is_same(object, found) => {}
             _ => return false,
         }
     }
