@@ -1,5 +1,5 @@
 -- The statuses of faults, and why reading the files of a command stops.
-use Rattle.std.specs.Prelude.{◌≡◌, ℕ, List, Some, slice_get, take}
+use Rattle.std.specs.Prelude.{◌≡◌, ℕ, ◌<◌, List, Some, slice_get, take}
 use Rattle.dl_io.specs.Source.{Source}
 use Rattle.dl_ir.specs.declared.modules.Module.{Module}
 use Rattle.dl_command.specs.declared.status.Status.{Status}
@@ -14,10 +14,12 @@ use Rattle.dl_ir.specs.CallForms.{AreCallsOf}
 use Rattle.dl_command.specs.declared.loading.Content.{Content}
 use Rattle.dl_command.specs.declared.loading.Content.TheVariants as contents
 use Rattle.dl_command.specs.declared.wanted.Form.{Form}
+use Rattle.dl_command.specs.declared.wanted.Form.TheVariants as forms
 use Rattle.dl_command.specs.Texts.{IsModuleFault, IsFaultOf, AreFiles, Behind, nothing_behind}
 use Rattle.dl_command.specs.Causes.{NoFile}
 use Rattle.dl_command.specs.Reading.{IsWithin}
 use Rattle.dl_command.specs.Wanted.{Wanted}
+use Rattle.dl_command.specs.Words.{heap_number}
 
 -- the status that a fault of a module text is answered with
 abbrev pub syntax_status : SyntaxFault → Status
@@ -58,5 +60,12 @@ pub data StopsAt (source : Module) (wanted : List Wanted) (old new : Source) (st
 
 -- calls that are said are calls of the module
 abbrev pub IsFine : Module → Content → Type 0
+IsFine source (contents.Heap heap) = Unit {0}
 IsFine source (contents.Schedule gives) = Unit {0}
 IsFine source (contents.Calls calls) = AreCallsOf source calls
+
+-- files of this form may have this number: the heap file has its own, and the others have more than 0 and are not long
+abbrev pub IsNumberOf : Form → ℕ → Type 0
+IsNumberOf (forms.Heap places) file = file ≡ heap_number
+IsNumberOf (forms.Schedule callers) file = (0 < file) × (file < heap_number)
+IsNumberOf forms.Operations file = (0 < file) × (file < heap_number)

@@ -8,7 +8,7 @@ use Rattle.dl_ir.specs.declared.calls.Call.{Call}
 use Rattle.dl_ir.specs.declared.answers.Entry.{Entry}
 use Rattle.dl_ir.specs.declared.answers.Refusal.{Refusal}
 use Rattle.dl_ir.specs.Cover.{Covers}
-use Rattle.dl_ir.specs.Heap.{Objects, start_objects}
+use Rattle.dl_ir.specs.Heap.{Objects}
 use Rattle.dl_shape.specs.Closed.{IsForestClosed}
 use Rattle.dl_shape.specs.Pool.{IsLawfulPool, HasVersionsOfMovesAlone, moves_of, in_rising_versions}
 use Rattle.dl_shape.specs.Replay.{IsLegal, replayed}
@@ -29,7 +29,7 @@ use Rattle.dl_command.specs.declared.status.Status.{Status}
 use Rattle.dl_command.specs.declared.status.Status.TheVariants as statuses
 use Rattle.dl_command.specs.Causes.{Refuses, Cut}
 use Rattle.dl_command.specs.Reading.{IsUnread, IsWithin}
-use Rattle.dl_command.specs.Texts.{Spells}
+use Rattle.dl_command.specs.Texts.{Spells, heap_of}
 use Rattle.dl_command.specs.Told.{EndsAsTold, IsInOrder}
 use Rattle.dl_command.specs.Words.{IsGood, Text, Task, limit_of}
 use Rattle.dl_command.specs.declared.top.Outcome.{Outcome}
@@ -85,13 +85,13 @@ pub record Traces (source : Module) (heap : Objects) (gives : List Give) (all : 
   pub scheduled : IsScheduled source heap gives all places end history refusals
   pub is_text : text ≡ end.text ++ report_of source heap all history.entries refusals
 
--- what a command writes of what its files spell: `serial` and `run` the report of a run of the calls from the start heap; `step` the
--- trace and the report of the scheduled run; and `show`, which carries out nothing, the canonical text of the tree and the listing of the
+-- what a command writes of what its files spell: `serial` and `run` the report of a run of the calls from the heap that is given, or
+-- else the start heap; `step` the trace and the report of the scheduled run from it; and `show`, which carries out nothing, the canonical text of the tree and the listing of the
 -- module's code. `work` reads no file, and has a promise of its own
 abbrev pub Writes : Verb → Input → ℕ → Seen → List Refusal → Text → Type 0
-Writes verbs.Serial input places history refusals text = Reports input.source (start_objects input.source) input.all.items places history refusals text
-Writes verbs.Run input places history refusals text = Reports input.source (start_objects input.source) input.all.items places history refusals text
-Writes verbs.Step input places history refusals text = Traces input.source (start_objects input.source) input.schedule input.all.items places history refusals text
+Writes verbs.Serial input places history refusals text = Reports input.source (heap_of input) input.all.items places history refusals text
+Writes verbs.Run input places history refusals text = Reports input.source (heap_of input) input.all.items places history refusals text
+Writes verbs.Step input places history refusals text = Traces input.source (heap_of input) input.schedule input.all.items places history refusals text
 Writes verbs.Show input places history refusals text =
     (history ≡ nothing_done) × (refusals ≡ []) × (text ≡ canonical input.tree ++ listing (code input.source))
 Writes verbs.Work input places history refusals text = ⊥
@@ -115,6 +115,7 @@ Prints (statuses.TooLong file) text old new = ⊥
 Prints (statuses.ModuleFault line why) text old new = ⊥
 Prints (statuses.OpsFault file line why) text old new = ⊥
 Prints statuses.Memory text old new = ⊥
+Prints (statuses.HeapFault line why) text old new = ⊥
 
 -- how a command ends once its files are read: memory runs out, or what it writes is written as far as the sink takes it
 pub data Finishes (verb : Verb) (input : Input) (places : ℕ) (taken_before taken_after : Taken) (status : Status) (history : Seen) (refusals : List Refusal) : Type 0 where

@@ -50,3 +50,4 @@ ReadCause statuses.Usage file path old new = ⊥
 ReadCause (statuses.ModuleFault line why) file path old new = ⊥
 ReadCause (statuses.OpsFault f line why) file path old new = ⊥
 ReadCause statuses.WriteFault file path old new = ⊥
+ReadCause (statuses.HeapFault line why) file path old new = ⊥

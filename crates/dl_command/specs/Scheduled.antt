@@ -1,6 +1,5 @@
 -- What a scheduled run has at its start and at its end.
 use Rattle.std.specs.Prelude.{◌≡◌, ◌≤◌, ℕ, [], length, sum_by, vec_capacity, vec_len}
-use Rattle.dl_ir.specs.Heap.{start_objects}
 use Rattle.dl_core.specs.Machines.{Machine, opened, plan_at, with_state}
 use Rattle.dl_core.specs.Plans.{Plan, IsPlan}
 use Rattle.dl_trace.specs.Runs.{Run, ScheduleRun}
@@ -8,10 +7,11 @@ use Rattle.dl_command.specs.declared.loading.Input.{Input}
 use Rattle.dl_command.specs.declared.step.Ready.{Ready}
 use Rattle.dl_command.specs.declared.step.Room.{Room}
 use Rattle.dl_command.specs.Promise.{plan_of}
+use Rattle.dl_command.specs.Texts.{heap_of}
 
--- the plan of a run of the input's calls from the start heap
+-- the plan of a run of the input's calls from the heap that is given, or else the start heap
 abbrev pub plan_from : Input → ℕ → Plan
-plan_from input places = plan_of input.source (start_objects input.source) input.all.items places
+plan_from input places = plan_of input.source (heap_of input) input.all.items places
 
 -- there is room for an entry and for a refusal of each call
 pub record IsRoom (input : Input) (room : Room) : Type 0 where

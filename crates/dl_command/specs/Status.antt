@@ -2,6 +2,8 @@
 use Rattle.std.specs.Prelude.{ℕ, ◌++◌, List, [], codes, decimal}
 use Rattle.dl_grammar.specs.declared.fault.Which.{Which}
 use Rattle.dl_grammar.specs.declared.fault.Which.TheVariants as limits
+use Rattle.dl_command.specs.declared.status.HeapWhy.{HeapWhy}
+use Rattle.dl_command.specs.declared.status.HeapWhy.TheVariants as heaps
 use Rattle.dl_command.specs.declared.status.ModuleWhy.{ModuleWhy}
 use Rattle.dl_command.specs.declared.status.ModuleWhy.TheVariants as modules
 use Rattle.dl_command.specs.declared.status.OpsWhy.{OpsWhy}
@@ -49,6 +51,15 @@ ops_why_text calls.NoRoot = codes "NoRoot"
 ops_why_text calls.BadStep = codes "BadStep"
 ops_why_text calls.NoCaller = codes "NoCaller"
 
+-- the name of a fault of a heap file
+abbrev pub heap_why_text : HeapWhy → List ℕ
+heap_why_text heaps.NoHeap = codes "NoHeap"
+heap_why_text heaps.BadLine = codes "BadLine"
+heap_why_text heaps.Count = codes "Count"
+heap_why_text heaps.Dangling = codes "Dangling"
+heap_why_text heaps.Shape = codes "Shape"
+heap_why_text heaps.NoPlaces = codes "NoPlaces"
+
 -- a place and the fault there
 abbrev pub placed_text : ℕ → List ℕ → List ℕ
 placed_text line why = decimal line ++ codes ": " ++ why ++ codes "\n"
@@ -63,6 +74,7 @@ status_text (statuses.ModuleFault line why) = codes "domlock: module line " ++ p
 status_text (statuses.OpsFault file line why) = codes "domlock: file " ++ decimal file ++ codes " line " ++ placed_text line (ops_why_text why)
 status_text statuses.WriteFault = codes "domlock: write fault\n"
 status_text statuses.Memory = codes "domlock: out of memory\n"
+status_text (statuses.HeapFault line why) = codes "domlock: heap line " ++ placed_text line (heap_why_text why)
 
 -- the code with which the program ends
 abbrev pub code_of : Status → ℕ
@@ -74,3 +86,4 @@ code_of (statuses.ModuleFault line why) = 4
 code_of (statuses.OpsFault file line why) = 5
 code_of statuses.WriteFault = 6
 code_of statuses.Memory = 7
+code_of (statuses.HeapFault line why) = 8

@@ -1,8 +1,13 @@
 -- What the files of a command spell, and the faults of texts that spell nothing.
-use Rattle.std.specs.Prelude.{◌≡◌, ◌≢◌, ℕ, ◌≤◌, List, [], ◌∷◌, ◌++◌, length}
+use Rattle.std.specs.Prelude.{◌≡◌, ◌≢◌, ℕ, ◌≤◌, List, [], ◌∷◌, ◌++◌, Option, Some, None, option_map, Ok, Err, length}
 use Rattle.dl_io.specs.Source.{Source, Tells}
 use Rattle.dl_ir.specs.declared.modules.Module.{Module}
 use Rattle.dl_ir.specs.declared.calls.Call.{Call}
+use Rattle.dl_ir.specs.Heap.{Objects, View, hidden_count, start_objects}
+use Rattle.dl_shape.specs.Startable.{IsStartable}
+use Rattle.dl_heapfile.specs.Faults.{Reads}
+use Rattle.dl_heapfile.specs.declared.fault.HeapFault.{HeapFault}
+use Rattle.dl_heapfile.specs.declared.fault.HeapFault.TheVariants as heap_faults
 use Rattle.dl_syntax.specs.Rules.{IsCallsFile, IsCallsFault}
 use Rattle.dl_grammar.specs.Texts.{Spells as SpellsTree, IsSyntaxFault}
 use Rattle.dl_grammar.specs.declared.tree.Tree.{Tree}
@@ -23,6 +28,7 @@ use Rattle.dl_command.specs.declared.status.Status.{Status}
 use Rattle.dl_command.specs.declared.status.Status.TheVariants as statuses
 use Rattle.dl_command.specs.declared.wanted.Form.{Form}
 use Rattle.dl_command.specs.declared.wanted.Form.TheVariants as forms
+use Rattle.dl_command.specs.declared.status.HeapWhy.TheVariants as heaps
 use Rattle.dl_command.specs.declared.status.ModuleWhy.{ModuleWhy}
 use Rattle.dl_command.specs.declared.status.ModuleWhy.TheVariants as modules
 use Rattle.dl_command.specs.declared.status.OpsWhy.TheVariants as whys
@@ -77,6 +83,16 @@ schedule_status file (schedules.NoCaller line) = statuses.OpsFault file line why
 schedule_status file (schedules.TooMany line) = statuses.OpsFault file line whys.TooMany
 schedule_status file schedules.Memory = statuses.Memory
 
+-- the status that tells a fault of the heap file
+abbrev pub heap_status : HeapFault → Status
+heap_status (heap_faults.NoHeap line) = statuses.HeapFault line heaps.NoHeap
+heap_status (heap_faults.BadLine line) = statuses.HeapFault line heaps.BadLine
+heap_status (heap_faults.Count line) = statuses.HeapFault line heaps.Count
+heap_status (heap_faults.Dangling line) = statuses.HeapFault line heaps.Dangling
+heap_status (heap_faults.Shape line) = statuses.HeapFault line heaps.Shape
+heap_status (heap_faults.NoPlaces line) = statuses.HeapFault line heaps.NoPlaces
+heap_status heap_faults.Memory = statuses.Memory
+
 -- there is such a fault, other than want of memory, and the status tells it
 pub record IsToldBy {Fault : Type 0} (is_fault : Fault → Type 0) (memory : Fault) (told : Fault → Status) (status : Status) : Type 0 where
   pub fault : Fault
@@ -86,13 +102,19 @@ pub record IsToldBy {Fault : Type 0} (is_fault : Fault → Type 0) (memory : Fau
 
 -- the text is not of this form, and the status tells its first fault, in the file of this number
 abbrev pub IsFaultOf : Module → ℕ → Form → Text → Status → Type 0
+IsFaultOf source file (forms.Heap places) text status = IsToldBy (λ fault. Reads source places text (Err fault)) heap_faults.Memory heap_status status
 IsFaultOf source file (forms.Schedule callers) text status = IsToldBy (IsScheduleFault callers text) schedules.Memory (schedule_status file) status
 IsFaultOf source file forms.Operations text status = IsToldBy (IsCallsFault source text) faults.Memory (calls_status file) status
 
--- what a text of this form says: the gives of a schedule, or calls of the module
+-- what a text of this form says: a heap of the module, the gives of a schedule, or calls of the module
 abbrev pub Says : Module → Form → Text → Content → Type 0
+Says source (forms.Heap places) text (contents.Heap heap) = Reads source places text (Ok heap.objects)
+Says source (forms.Heap places) text (contents.Schedule gives) = ⊥
+Says source (forms.Heap places) text (contents.Calls calls) = ⊥
+Says source (forms.Schedule callers) text (contents.Heap heap) = ⊥
 Says source (forms.Schedule callers) text (contents.Schedule gives) = SpellsSchedule callers text gives
 Says source (forms.Schedule callers) text (contents.Calls calls) = ⊥
+Says source forms.Operations text (contents.Heap heap) = ⊥
 Says source forms.Operations text (contents.Schedule gives) = ⊥
 Says source forms.Operations text (contents.Calls calls) = IsCallsFile source text calls
 
@@ -103,16 +125,19 @@ pub record IsFile (source : Module) (files : Source) (file : Wanted) (content : 
   pub short : length text ≤ limit_of file.number
   pub says : Says source file.form text content
 
--- what the files behind a module say: a schedule, empty where there is none, and the calls of each operation file
+-- what the files behind a module say: a heap, where a heap file is given; a schedule, empty where there is none; and the calls of each
+-- operation file
 pub record Behind : Type 0 where
+  pub heap : Option Objects
   pub gives : List Give
   pub all : List (List Call)
 
 abbrev pub nothing_behind : Behind
-nothing_behind = record { gives = []; all = [] }
+nothing_behind = record { heap = None; gives = []; all = [] }
 
 -- the same, and what one more file says
 abbrev pub with_content : Behind → Content → Behind
+with_content behind (contents.Heap heap) = record behind { heap = Some heap.objects }
 with_content behind (contents.Schedule gives) = record behind { gives = gives }
 with_content behind (contents.Calls calls) = record behind { all = behind.all ++ calls ∷ [] }
 
@@ -131,9 +156,22 @@ pub record IsModuleFile (files : Source) (path : Text) (tree : Tree) (source : M
 
 -- what the files behind a module say, as the program holds it
 abbrev pub behind_of : Input → Behind
-behind_of input = record { gives = input.schedule; all = input.all.items }
+behind_of input = record { heap = option_map (λ heap. heap.objects) input.heap; gives = input.schedule; all = input.all.items }
 
 -- the files of a command spell a tree that is a module, and behind it what the command wants
 pub record Spells (files : Source) (task : Task) (input : Input) : Type 0 where
   pub source_file : IsModuleFile files task.first input.tree input.source
   pub behind : AreFiles input.source files (wanted task) nothing_behind (behind_of input)
+
+-- the heap from which the runs of a command start: the one that its heap file says, or else the start heap of the module
+abbrev pub first_heap : Module → Option View → Objects
+first_heap source None = start_objects source
+first_heap source (Some heap) = heap.objects
+
+abbrev pub heap_of : Input → Objects
+heap_of input = first_heap input.source input.heap
+
+-- a run with so many places may start from this heap
+pub record CanStart (source : Module) (places : ℕ) (heap : Objects) : Type 0 where
+  pub startable : IsStartable source heap
+  pub fits : hidden_count heap ≤ places

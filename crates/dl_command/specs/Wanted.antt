@@ -1,11 +1,11 @@
 -- The files that a command wants behind the module, in the order in which they are read.
-use Rattle.std.specs.Prelude.{ℕ, ◌+◌, List, [], ◌∷◌, length, map}
+use Rattle.std.specs.Prelude.{ℕ, ◌+◌, ◌++◌, List, [], ◌∷◌, Option, Some, None, length, map}
 use Rattle.dl_command.specs.declared.wanted.Form.{Form}
 use Rattle.dl_command.specs.declared.wanted.Form.TheVariants as forms
 use Rattle.dl_command.specs.declared.wanted.WantedFile.{WantedFile as Held}
 use Rattle.dl_command.specs.declared.words.Verb.{Verb}
 use Rattle.dl_command.specs.declared.words.Verb.TheVariants as verbs
-use Rattle.dl_command.specs.Words.{Task, Text}
+use Rattle.dl_command.specs.Words.{Task, Text, heap_number}
 
 -- a file that is wanted: its number, what it is to be, and its path
 pub record Wanted : Type 0 where
@@ -18,6 +18,11 @@ abbrev pub operations_from : ℕ → List Text → List Wanted
 operations_from number [] = []
 operations_from number (path ∷ paths) = record { number = number; form = forms.Operations; path = path } ∷ operations_from (number + 1) paths
 
+-- the heap file at this path, from which a run with so many places is to start, where one is given
+abbrev pub heap_file : ℕ → Option Text → List Wanted
+heap_file places None = []
+heap_file places (Some path) = record { number = heap_number; form = forms.Heap places; path = path } ∷ []
+
 -- what the words REST of a command are the paths of: operation files, and for `step` a schedule before them, which names their callers
 abbrev pub wanted_by : Verb → List Text → List Wanted
 wanted_by verbs.Serial rest = operations_from 1 rest
@@ -27,9 +32,9 @@ wanted_by verbs.Step (path ∷ paths) = record { number = 1; form = forms.Schedu
 wanted_by verbs.Show rest = operations_from 1 rest
 wanted_by verbs.Work rest = []
 
--- the files that a command wants behind the module, in the order in which they are read
+-- the files that a command wants behind the module, in the order in which they are read: the heap file first, where one is given
 abbrev pub wanted : Task → List Wanted
-wanted task = wanted_by task.verb task.rest
+wanted task = heap_file task.places task.heap ++ wanted_by task.verb task.rest
 
 -- the numbers of all its files in that order; the module is file 0
 abbrev pub numbers_of : Task → List ℕ

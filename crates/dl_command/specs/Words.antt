@@ -1,5 +1,5 @@
 -- Which words are a command, over what the library `clap` makes of them: the command line, and the table of commands.
-use Rattle.std.specs.Prelude.{◌≡◌, ℕ, ◌==◌, ◌-◌, ◌≤◌, ◌^◌, nat_lt, true, List, [], ◌∷◌, length, map, find, fold, pos, Option, Some, None, codes, bytes_eq, unwrap_or, if◌then◌else◌}
+use Rattle.std.specs.Prelude.{◌≡◌, ℕ, ◌==◌, ◌-◌, ◌≤◌, ◌^◌, ◌&&◌, nat_lt, Bool, true, false, not, is_some, List, [], ◌∷◌, length, map, find, fold, pos, Option, Some, None, codes, bytes_eq, unwrap_or, if◌then◌else◌}
 use Rattle.std.specs.Prelude.{option_map, option_and_then}
 use Rattle.std.specs.Str.Parse.{digits_value, without_leading_plus}
 use Rattle.clap.specs.ValueTests.{is_unsigned_in}
@@ -22,13 +22,14 @@ use Rattle.dl_command.specs.declared.words.WordsFault.TheVariants as faults
 abbrev pub Text : Type 0
 Text = List ℕ
 
--- a command: what to do, the path of the module, the paths of the files behind it, and how many hidden objects there may
--- be at a time
+-- a command: what to do, the path of the module, the paths of the files behind it, how many hidden objects there may be at a
+-- time, and the path of a heap file, where one is given
 pub record Task : Type 0 where
   pub verb : Verb
   pub first : Text
   pub rest : List Text
   pub places : ℕ
+  pub heap : Option Text
 
 -- the word that says what to do
 abbrev pub command_rule : Rule
@@ -54,20 +55,25 @@ places_rule = record (new_rule (codes "places")) {
   defaults = codes "4096" ∷ [];
 }
 
+-- the option `--heap FILE`: the path of a heap file
+abbrev pub heap_rule : Rule
+heap_rule = record (new_rule (codes "heap")) { long = Some (codes "heap") }
+
 -- what the words may be: the three kinds of words in this order, and the options
 abbrev pub rules : List Rule
-rules = command_rule ∷ first_rule ∷ rest_rule ∷ places_rule ∷ []
+rules = command_rule ∷ first_rule ∷ rest_rule ∷ places_rule ∷ heap_rule ∷ []
 
 -- the command line, which the program's name is no part of
 abbrev pub command_line : App
 command_line = fold with_rule (on_top (λ shape. record shape { no_binary_name = true }) (new_app (codes "domlock"))) rules
 
--- what the command line gives: the words in their order, and the number of the option
+-- what the command line gives: the words in their order, and what the options say
 pub record Line : Type 0 where
   pub command : Text
   pub first : Text
   pub rest : List Text
   pub places : ℕ
+  pub heap : Option Text
 
 -- the number that a text says, where 32 bits hold it
 abbrev pub number_of : Text → Option ℕ
@@ -80,30 +86,32 @@ line_of_matches rows = option_and_then (λ command. option_and_then (λ first. o
   first = first;
   rest = unwrap_or (all_of (codes "REST") rows) [];
   places = places;
+  heap = first_of (codes "heap") rows;
 }) (option_and_then number_of (one_of (codes "places") rows))) (first_of (codes "FIRST") rows)) (first_of (codes "COMMAND") rows)
 
--- the table of commands, a row each: the word COMMAND, what it asks for, and how many words REST has at least and at most;
--- they are `serial MODULE OPERATIONS`, `run MODULE OPERATIONS..` and `step MODULE SCHEDULE OPERATIONS..` with up to 64 operation
--- files, `show MODULE`, and `work SEED COUNT CALLERS`
+-- the table of commands, a row each: the word COMMAND, what it asks for, how many words REST has at least and at most, and whether it
+-- takes `--heap`; they are `serial MODULE OPERATIONS`, `run MODULE OPERATIONS..` and `step MODULE SCHEDULE OPERATIONS..` with up to 64
+-- operation files, which take a heap file, and `show MODULE` and `work SEED COUNT CALLERS`, which take none
 abbrev pub table : List (Text × CommandRow)
 table =
-    (codes "serial", record { verb = verbs.Serial; fewest = 1; most = 1 })
-    ∷ (codes "run", record { verb = verbs.Run; fewest = 1; most = 64 })
-    ∷ (codes "step", record { verb = verbs.Step; fewest = 2; most = 65 })
-    ∷ (codes "show", record { verb = verbs.Show; fewest = 0; most = 0 })
-    ∷ (codes "work", record { verb = verbs.Work; fewest = 2; most = 2 })
+    (codes "serial", record { verb = verbs.Serial; fewest = 1; most = 1; takes_heap = true })
+    ∷ (codes "run", record { verb = verbs.Run; fewest = 1; most = 64; takes_heap = true })
+    ∷ (codes "step", record { verb = verbs.Step; fewest = 2; most = 65; takes_heap = true })
+    ∷ (codes "show", record { verb = verbs.Show; fewest = 0; most = 0; takes_heap = false })
+    ∷ (codes "work", record { verb = verbs.Work; fewest = 2; most = 2; takes_heap = false })
     ∷ []
 
 -- the row of a word
 abbrev pub row_of : Text → Option CommandRow
 row_of word = option_map (λ row. row.1) (find (λ row. bytes_eq row.0 word) table)
 
--- the command that a row gives, where REST has as many words as the row asks for
+-- the command that a row gives, where REST has as many words as the row asks for, and a heap file is given only where the row takes one
 abbrev pub task_by : Line → CommandRow → Option Task
 task_by line row =
     if nat_lt (length line.rest) row.fewest then None
     else if nat_lt row.most (length line.rest) then None
-    else Some (record { verb = row.verb; first = line.first; rest = line.rest; places = line.places })
+    else if is_some line.heap && not row.takes_heap then None
+    else Some (record { verb = row.verb; first = line.first; rest = line.rest; places = line.places; heap = line.heap })
 
 -- the command that the table has for what the words give
 abbrev pub task_of_line : Line → Option Task
@@ -151,14 +159,18 @@ MayHave verbs.Step count = (2 ≤ count) × (count ≤ 65)
 MayHave verbs.Show count = count ≡ 0
 MayHave verbs.Work count = count ≡ 2
 
--- how many bytes a file may have: the module fewer than the others
+-- the number of the heap file
+abbrev pub heap_number : ℕ
+heap_number = 65535
+
+-- how many bytes a file may have: the module fewer than the others, and the heap file more
 abbrev pub limit_of : ℕ → ℕ
-limit_of file = if file == 0 then 262144 else 4194304
+limit_of file = if file == 0 then 262144 else if file == heap_number then 67108864 else 4194304
 
 -- what the command line gives, as the program holds it
 abbrev pub line_held : Held → Line
-line_held line = record { command = line.command.now; first = line.first.now; rest = map (λ word. word.now) line.rest.items; places = line.places }
+line_held line = record { command = line.command.now; first = line.first.now; rest = map (λ word. word.now) line.rest.items; places = line.places; heap = option_map (λ word. word.now) line.heap }
 
 -- a command as the program holds it
 abbrev pub task_of : Command → Task
-task_of command = record { verb = command.verb; first = command.first.now; rest = map (λ path. path.now) command.rest.items; places = command.places }
+task_of command = record { verb = command.verb; first = command.first.now; rest = map (λ path. path.now) command.rest.items; places = command.places; heap = option_map (λ path. path.now) command.heap }

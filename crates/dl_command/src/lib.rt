@@ -15,6 +15,6 @@ mod wanted;
 mod words;
 mod work;
 
-pub use status::{ModuleWhy, OpsWhy, Status, exit_code, status_line};
+pub use status::{HeapWhy, ModuleWhy, OpsWhy, Status, exit_code, status_line};
 pub use top::{Outcome, domlock, domlock_still};
 pub use words::{Words, WordsFault};

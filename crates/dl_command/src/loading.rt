@@ -6,20 +6,24 @@ ghost use Rattle.dl_ir.specs.Checked.{IsChecked};
 ghost use Rattle.dl_ir.specs.declared.modules.Module.{Module as ModuleOf};
 ghost use Rattle.dl_command.specs.Causes.{NoFile, NoModule, Refuses};
 ghost use Rattle.dl_command.specs.Reading.{AfterReading, IsWithin};
-ghost use Rattle.dl_command.specs.Texts.{IsModuleFile, IsFile, AreFiles, Says, Spells, behind_of, calls_status, nothing_behind, schedule_status, with_content};
+ghost use Rattle.dl_command.specs.Texts.{CanStart, IsModuleFile, IsFile, AreFiles, Says, Spells, behind_of, calls_status, heap_of, heap_status, nothing_behind, schedule_status, with_content};
+ghost use Rattle.dl_heapfile.specs.Names.{HasNames};
+ghost use Rattle.dl_ir.specs.Heap.{HasStart};
 ghost use Rattle.dl_command.specs.Wanted.{wanted_held};
-ghost use Rattle.dl_command.specs.Words.{task_of};
+ghost use Rattle.dl_command.specs.Words.{limit_of, task_of};
 ghost use Rattle.dl_grammar.specs.Texts.{Spells as SpellsTree};
 ghost use Rattle.dl_types.specs.Rules.{Types};
-ghost use Rattle.dl_command.specs.Loading.{syntax_status, type_status, IsFine, ParseCause, TextCause, StopsAt};
+ghost use Rattle.dl_command.specs.Loading.{syntax_status, type_status, IsFine, IsNumberOf, ParseCause, TextCause, StopsAt};
 
 use crate::reading::read_file;
-use crate::status::{ModuleWhy, OpsWhy, Status};
+use crate::status::{HeapWhy, ModuleWhy, OpsWhy, Status};
 use crate::wanted::{Form, WantedFile, wanted_files};
 use crate::words::Command;
 use dl_grammar::{SyntaxFault, Tree, read_module};
+use dl_heapfile::{HeapFault, read_heap, what_is_read_is_spelt};
 use dl_io::Files;
-use dl_ir::{Calls, Module};
+use dl_ir::{Calls, Heap, Module};
+use dl_naming::spelled_has_names;
 use dl_schedule::{Schedule, ScheduleFault, read_schedule};
 use dl_syntax::{CallsFault, read_calls};
 use dl_types::{TypeFault, check};
@@ -124,11 +128,48 @@ fn status_of_schedule(file: u32, fault: ScheduleFault) -> Status
     }
 }
 
+fn heap_fault(line: u32, why: HeapWhy) -> Status
+    ensures { result ≡ Status.HeapFault line why }
+{
+    Status::HeapFault { line, why }
+}
+
+// The status of a fault of the heap file.
+fn status_of_heap(fault: HeapFault) -> Status
+    ensures { result ≡ heap_status fault }
+{
+    match fault {
+        HeapFault::NoHeap { line } => heap_fault(line, HeapWhy::NoHeap),
+        HeapFault::BadLine { line } => heap_fault(line, HeapWhy::BadLine),
+        HeapFault::Count { line } => heap_fault(line, HeapWhy::Count),
+        HeapFault::Dangling { line } => heap_fault(line, HeapWhy::Dangling),
+        HeapFault::Shape { line } => heap_fault(line, HeapWhy::Shape),
+        HeapFault::NoPlaces { line } => heap_fault(line, HeapWhy::NoPlaces),
+        HeapFault::Memory => Status::Memory,
+    }
+}
+
 /// What a file behind the module says.
 #[derive(Drop)]
 pub enum Content {
+    Heap(Heap),
     Schedule(Schedule),
     Calls(Calls),
+}
+
+// The heap of the heap file.
+fn parse_heap(alloc: Global, source: &Module, places: u32, text: &[u8]) -> Result<Content, Status>
+    requires start { HasStart source.now }
+    requires names { HasNames source.now }
+    requires short { length text.now ≤ 67108864 }
+    ensures ok { IfOk result (Says source.now (Form.Heap places) text.now) }
+    ensures calls { IfOk result (IsFine source.now) }
+    ensures cause { (file : ℕ) → IfErr result (TextCause source.now file (Form.Heap places) text.now) }
+{
+    match read_heap(alloc, text, source, places) {
+        Ok(heap) => Ok(Content::Heap(heap)),
+        Err(fault) => Err(status_of_heap(fault)),
+    }
 }
 
 // The schedule of a file with this number.
@@ -167,12 +208,16 @@ fn parse(
     text: &[u8],
 ) -> Result<Content, Status>
     requires few_ops { length source.now.ops ≤ 64 }
-    requires short { length text.now ≤ 4194304 }
+    requires start { HasStart source.now }
+    requires names { HasNames source.now }
+    requires short { length text.now ≤ limit_of file }
+    requires fits { IsNumberOf form file }
     ensures ok { IfOk result (Says source.now form text.now) }
     ensures calls { IfOk result (IsFine source.now) }
     ensures cause { IfErr result (TextCause source.now file form text.now) }
 {
     match form {
+        Form::Heap { places } => parse_heap(alloc, source, places, text),
         Form::Schedule { callers } => parse_schedule(alloc, callers, file, text),
         Form::Operations => parse_calls(alloc, source, file, text),
     }
@@ -201,7 +246,9 @@ fn read_wanted<F: Files>(
     file: WantedFile<'_>,
 ) -> Result<Content, Status>
     requires few_ops { length source.now.ops ≤ 64 }
-    requires number { 0 < file.number }
+    requires start { HasStart source.now }
+    requires names { HasNames source.now }
+    requires number { IsNumberOf file.form file.number }
     ensures ok { IfOk result (IsFile source.now (F.source files.old) (wanted_held file.entry)) }
     ensures calls { IfOk result (IsFine source.now) }
     ensures within { OnOk result (IsWithin (F.source files.new)) }
@@ -215,12 +262,13 @@ fn read_wanted<F: Files>(
     parse(alloc, source, file.number, file.form, &text)
 }
 
-/// What the files of a command say: the tree of the module's text, the module, the schedule, which is empty where none is
-/// wanted, and the calls of each operation file.
+/// What the files of a command say: the tree of the module's text, the module, the heap from which runs start, where one is
+/// given, the schedule, which is empty where none is wanted, and the calls of each operation file.
 #[derive(Drop)]
 pub struct Input {
     pub tree: Tree,
     pub source: Module,
+    pub heap: Option<Heap>,
     pub schedule: Schedule,
     pub all: Vec<Calls>,
 }
@@ -235,6 +283,7 @@ impl Input {
         Input {
             tree,
             source,
+            heap: None,
             schedule: Items::new(alloc),
             all: Vec::new(alloc),
         }
@@ -247,6 +296,7 @@ impl Input {
         ensures behind { OnOk result (behind_of self.new ≡ with_content (behind_of self.old) content) }
     {
         match content {
+            Content::Heap(heap) => self.heap = Some(heap),
             Content::Schedule(schedule) => self.schedule = schedule,
             Content::Calls(calls) => self.all.push(calls)?,
         }
@@ -262,7 +312,9 @@ fn read_behind<F: Files>(
     wanted: &[WantedFile<'_>],
 ) -> Result<(), Status>
     requires few_ops { length input.old.source.ops ≤ 64 }
-    requires numbers { All (λ file. 0 < file.number) wanted.now }
+    requires start { HasStart input.old.source }
+    requires names { HasNames input.old.source }
+    requires numbers { All (λ file. IsNumberOf file.form file.number) wanted.now }
     requires empty { behind_of input.old ≡ nothing_behind }
     requires within { IsWithin (F.source files.old) }
     ensures tree { input.new.tree ≡ input.old.tree }
@@ -296,6 +348,7 @@ pub fn read_input<F: Files>(
     ensures spells { IfOk result (Spells (F.source files.old) (task_of command.now)) }
     ensures checked { IfOk result (λ input. IsChecked input.source) }
     ensures calls { IfOk result (λ input. All (AreCallsOf input.source) input.all.items) }
+    ensures start { IfOk result (λ input. CanStart input.source command.now.places (heap_of input)) }
     ensures within { OnOk result (IsWithin (F.source files.new)) }
     ensures cause { IfErr result (Refuses (task_of command.now) (F.source files.old) (F.source files.new)) }
     ensures after { AfterReading (F.source files.old) (F.source files.new) }

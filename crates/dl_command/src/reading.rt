@@ -7,6 +7,7 @@ ghost use Rattle.dl_command.specs.Reading.{StopCause, AfterReading, ReadCause, I
 ghost use Rattle.dl_command.specs.Words.{limit_of};
 
 use crate::status::Status;
+use crate::wanted::HEAP_FILE;
 use dl_io::{Failed, Files};
 use std::alloc::{AllocError, Global};
 
@@ -105,7 +106,11 @@ fn limit(file: u32) -> u64
     ensures value { result ≡ limit_of file }
     ensures small { result < 2 ^ 60 }
 {
-    if file == 0 { 262_144 } else { 4_194_304 }
+    match file {
+        0 => 262_144,
+        HEAP_FILE => 67_108_864,
+        _ => 4_194_304,
+    }
 }
 
 /// Reads a file of a command to its end.

@@ -4,12 +4,13 @@ ghost use Rattle.std.specs.Prelude.{◌≡◌, ◌≤◌, ◌<◌, ◌^◌, ◌+
 ghost use Rattle.dl_ir.specs.CallForms.{AreCallsOf};
 ghost use Rattle.dl_ir.specs.Checked.{IsChecked};
 ghost use Rattle.dl_ir.specs.Cover.{Covers};
-ghost use Rattle.dl_ir.specs.Heap.{start_objects};
 ghost use Rattle.dl_shape.specs.Pool.{moves_of, in_rising_versions};
 ghost use Rattle.dl_shape.specs.Replay.{replayed};
 ghost use Rattle.dl_history.specs.Histories.{joined, AreByCaller};
 ghost use Rattle.dl_text.specs.Writing.{Puts};
-ghost use Rattle.dl_command.specs.Promise.{IsRun, Prints, report_of};
+ghost use Rattle.dl_history.specs.Report.{report};
+ghost use Rattle.dl_command.specs.Promise.{IsRun, Prints};
+ghost use Rattle.dl_command.specs.Texts.{CanStart, first_heap, heap_of};
 
 use crate::loading::Input;
 use crate::status::Status;
@@ -17,9 +18,9 @@ use dl_core::Ground;
 use dl_history::{History, MergeRoom, gather, merge, write_report};
 use dl_instr::{codes_of_modules, instrument};
 use dl_io::{Failed, Sink};
-use dl_ir::{Calls, Closed, Heap, Refusal};
+use dl_ir::{Calls, Closed, Heap, Module, Refusal};
 use dl_machine::{Gate, run_files};
-use dl_serial::{Served, run_calls};
+use dl_serial::{Served, greatest_ticket, run_calls};
 use dl_text::Out;
 use sqlite_items::Items;
 use std::alloc::{AllocError, Global};
@@ -34,24 +35,48 @@ pub struct Run {
     pub closed: Closed,
 }
 
-/// Runs the calls of one file, one after another, from the start heap of their module, with so many hidden objects at a
-/// time at most.
-pub fn run_input(alloc: Global, input: &Input, places: u32) -> Result<Run, AllocError>
-    requires places { (1 ≤ places) × (places ≤ 65536) }
-    requires checked { IsChecked input.now.source }
-    requires one { length input.now.all.items ≡ 1 }
-    requires calls { All (AreCallsOf input.now.source) input.now.all.items }
-    ensures run { IfOk result (λ run. IsRun input.now.source (start_objects input.now.source) input.now.all.items places run.history run.refusals) }
-    ensures heap { IfOk result (λ run. run.closed.heap.objects ≡ replayed input.now.source input.now.all.items (start_objects input.now.source) run.history.entries) }
-    ensures moves { IfOk result (λ run. run.history.moves ≡ in_rising_versions (moves_of input.now.source input.now.all.items run.history.entries)) }
+/// The heap from which a run starts: the one that is given, or else the start heap of the module, with memory for so many
+/// hidden objects.
+pub fn start_heap(
+    alloc: Global,
+    source: &Module,
+    given: Option<Heap>,
+    places: u32,
+) -> Result<Heap, AllocError>
+    requires places { places ≤ 65536 }
+    requires checked { IsChecked source.now }
+    ensures { IfOk result (λ heap. heap.objects ≡ first_heap source.now given) }
+{
+    match given {
+        Some(heap) => Ok(heap),
+        None => Heap::start(alloc, source, places),
+    }
+}
+
+/// Runs the calls of one file, one after another, from a heap of their module, with so many hidden objects at a time at most.
+pub fn run_from(
+    alloc: Global,
+    source: &Module,
+    heap: Heap,
+    places: u32,
+    files: &[Calls],
+) -> Result<Run, AllocError>
+    requires checked { IsChecked source.now }
+    requires one { length files.now ≡ 1 }
+    requires calls { All (AreCallsOf source.now) files.now }
+    requires start { CanStart source.now places heap.objects }
+    ensures run { IfOk result (λ run. IsRun source.now heap.objects files.now places run.history run.refusals) }
+    ensures heap { IfOk result (λ run. run.closed.heap.objects ≡ replayed source.now files.now heap.objects run.history.entries) }
+    ensures moves { IfOk result (λ run. run.history.moves ≡ in_rising_versions (moves_of source.now files.now run.history.entries)) }
     ensures refusals { IfOk result (λ run. (joined run.closed.refusals ≡ run.refusals) × AreByCaller run.closed.refusals) }
 {
-    let mut heap = Heap::start(alloc, &input.source, places)?;
-    let served = run_calls(alloc, &input.source, &mut heap, places, 1, &input.all[0])?;
+    let mut heap = heap;
+    let first = greatest_ticket(&heap) + 1;
+    let served = run_calls(alloc, source, &mut heap, places, first, &files[0])?;
     let room = MergeRoom::new(alloc, served.entries.len() as u32)?;
     let refusals = Items::from_slice(alloc, served.refusals.as_slice())?;
     let closed = close(alloc, heap, served)?;
-    let history = merge(&input.source, input.all.as_slice(), &closed, room);
+    let history = merge(source, files, &closed, room);
     Ok(Run {
         history,
         refusals,
@@ -84,8 +109,9 @@ pub fn total_of(files: &[Calls]) -> u32
     total
 }
 
-/// Runs the calls of each file side by side, by what runs operations for several callers, from the start heap of their
-/// module, with so many hidden objects at a time at most. All memory is taken before the first operation begins.
+/// Runs the calls of each file side by side, by what runs operations for several callers, from the heap that is given, or
+/// else the start heap of their module, with so many hidden objects at a time at most. All memory is taken before the first
+/// operation begins.
 pub fn run_over<R: Threads + Wait + Sync, G: Ground, T: Gate>(
     rt: &R,
     alloc: Global,
@@ -98,8 +124,9 @@ pub fn run_over<R: Threads + Wait + Sync, G: Ground, T: Gate>(
     requires some { 1 ≤ length input.now.all.items }
     requires few { length input.now.all.items ≤ 64 }
     requires calls { All (AreCallsOf input.now.source) input.now.all.items }
-    ensures run { IfOk result (λ run. IsRun input.now.source (start_objects input.now.source) input.now.all.items places run.history run.refusals) }
-    ensures heap { IfOk result (λ run. run.closed.heap.objects ≡ replayed input.now.source input.now.all.items (start_objects input.now.source) run.history.entries) }
+    requires start { CanStart input.now.source places (heap_of input.now) }
+    ensures run { IfOk result (λ run. IsRun input.now.source (heap_of input.now) input.now.all.items places run.history run.refusals) }
+    ensures heap { IfOk result (λ run. run.closed.heap.objects ≡ replayed input.now.source input.now.all.items (heap_of input.now) run.history.entries) }
     ensures moves { IfOk result (λ run. run.history.moves ≡ in_rising_versions (moves_of input.now.source input.now.all.items run.history.entries)) }
     ensures refusals { IfOk result (λ run. (joined run.closed.refusals ≡ run.refusals) × AreByCaller run.closed.refusals) }
 {
@@ -110,7 +137,10 @@ pub fn run_over<R: Threads + Wait + Sync, G: Ground, T: Gate>(
     let total = total_of(files);
     let room = MergeRoom::new(alloc, total)?;
     let mut refusals = Vec::with_capacity(alloc, total as usize)?;
-    let (all, passes) = G::start(alloc, code, places, &sizes)?;
+    let (all, passes) = match &input.heap {
+        Some(heap) => G::over(alloc, code, heap, places, &sizes)?,
+        None => G::start(alloc, code, places, &sizes)?,
+    };
     let closed = run_files(rt, all, passes, files, gate);
     let history = merge(&input.source, files, &closed, room);
     gather(closed.refusals.as_slice(), &mut refusals);
@@ -140,40 +170,37 @@ fn close(alloc: Global, heap: Heap, served: Served) -> Result<Closed, AllocError
 }
 
 /// Puts the report of a run, and writes all that was put.
-pub fn put_run<K: Sink>(input: &Input, run: &Run, out: &mut Out, sink: &mut K) -> Result<(), Failed>
+pub fn put_run<K: Sink>(
+    source: &Module,
+    files: &[Calls],
+    run: &Run,
+    out: &mut Out,
+    sink: &mut K,
+) -> Result<(), Failed>
     requires works { out.old.failed ≡ false }
-    requires few { length input.now.all.items ≤ 64 }
-    requires calls { All (AreCallsOf input.now.source) input.now.all.items }
-    requires covers { Covers input.now.all.items run.now.history.entries run.now.refusals }
-    requires heap { run.now.closed.heap.objects ≡ replayed input.now.source input.now.all.items (start_objects input.now.source) run.now.history.entries }
-    requires moves { run.now.history.moves ≡ in_rising_versions (moves_of input.now.source input.now.all.items run.now.history.entries) }
+    requires few { length files.now ≤ 64 }
+    requires calls { All (AreCallsOf source.now) files.now }
+    requires covers { Covers files.now run.now.history.entries run.now.refusals }
+    requires moves { run.now.history.moves ≡ in_rising_versions (moves_of source.now files.now run.now.history.entries) }
     requires refusals { (joined run.now.closed.refusals ≡ run.now.refusals) × AreByCaller run.now.closed.refusals }
-    ensures puts { Puts (K.taken sink.old) out.old (report_of input.now.source (start_objects input.now.source) input.now.all.items run.now.history.entries run.now.refusals) result (K.taken sink.new) out.new }
+    ensures puts { Puts (K.taken sink.old) out.old (report source.now files.now run.now.history.entries run.now.refusals run.now.closed.heap.objects) result (K.taken sink.new) out.new }
     ensures empty { OnOk result (out.new.bytes ≡ []) }
 {
-    write_report(
-        &input.source,
-        input.all.as_slice(),
-        &run.history,
-        &run.closed,
-        out,
-        sink,
-    )?;
+    write_report(source, files, &run.history, &run.closed, out, sink)?;
     out.flush(sink)
 }
 
 /// Writes the report of a run.
-pub fn write_run<K: Sink>(input: &Input, run: &Run, sink: &mut K) -> Status
-    requires few { length input.now.all.items ≤ 64 }
-    requires calls { All (AreCallsOf input.now.source) input.now.all.items }
-    requires covers { Covers input.now.all.items run.now.history.entries run.now.refusals }
-    requires heap { run.now.closed.heap.objects ≡ replayed input.now.source input.now.all.items (start_objects input.now.source) run.now.history.entries }
-    requires moves { run.now.history.moves ≡ in_rising_versions (moves_of input.now.source input.now.all.items run.now.history.entries) }
+pub fn write_run<K: Sink>(source: &Module, files: &[Calls], run: &Run, sink: &mut K) -> Status
+    requires few { length files.now ≤ 64 }
+    requires calls { All (AreCallsOf source.now) files.now }
+    requires covers { Covers files.now run.now.history.entries run.now.refusals }
+    requires moves { run.now.history.moves ≡ in_rising_versions (moves_of source.now files.now run.now.history.entries) }
     requires refusals { (joined run.now.closed.refusals ≡ run.now.refusals) × AreByCaller run.now.closed.refusals }
-    ensures { Prints result (report_of input.now.source (start_objects input.now.source) input.now.all.items run.now.history.entries run.now.refusals) (K.taken sink.old) (K.taken sink.new) }
+    ensures { Prints result (report source.now files.now run.now.history.entries run.now.refusals run.now.closed.heap.objects) (K.taken sink.old) (K.taken sink.new) }
 {
     let mut out = Out::new();
-    match put_run(input, run, &mut out, sink) {
+    match put_run(source, files, run, &mut out, sink) {
         Ok(()) => Status::Done,
         Err(Failed) => Status::WriteFault,
     }

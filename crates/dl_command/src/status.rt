@@ -2,12 +2,12 @@
 
 ghost use Rattle.std.specs.Prelude.{◌≡◌, ◌++◌, [], decimal, false};
 ghost use Rattle.dl_text.specs.Writing.{Puts};
-ghost use Rattle.dl_command.specs.Status.{limit_text, module_why_text, ops_why_text, placed_text, status_text, code_of};
+ghost use Rattle.dl_command.specs.Status.{heap_why_text, limit_text, module_why_text, ops_why_text, placed_text, status_text, code_of};
 
 use dl_grammar::Which;
 use dl_text::{Failed, Out, Sink};
 
-/// How a call ended. Files are numbered by their words: the module is file 0.
+/// How a call ended. Files are numbered by their words: the module is file 0. The heap file has the number 65,535.
 #[derive(Clone, Copy, Debug, PartialEq, Eq)]
 pub enum Status {
     /// All was written.
@@ -26,6 +26,8 @@ pub enum Status {
     WriteFault,
     /// There was no memory.
     Memory,
+    /// The heap file is no heap of the module from which a run may start with the places given.
+    HeapFault { line: u32, why: HeapWhy },
 }
 
 /// Why a text is no module. `docs/LANGUAGE.md` tells when each comes.
@@ -58,6 +60,17 @@ pub enum OpsWhy {
     NoRoot,
     BadStep,
     NoCaller,
+}
+
+/// Why a text is no heap file of a module. `docs/FORMATS.md` tells when each comes.
+#[derive(Clone, Copy, Debug, PartialEq, Eq)]
+pub enum HeapWhy {
+    NoHeap,
+    BadLine,
+    Count,
+    Dangling,
+    Shape,
+    NoPlaces,
 }
 
 fn limit_name(limit: Which) -> &'static str
@@ -109,6 +122,19 @@ fn ops_why_name(why: OpsWhy) -> &'static str
         OpsWhy::NoRoot => "NoRoot",
         OpsWhy::BadStep => "BadStep",
         OpsWhy::NoCaller => "NoCaller",
+    }
+}
+
+fn heap_why_name(why: HeapWhy) -> &'static str
+    ensures { result.now ≡ heap_why_text why }
+{
+    match why {
+        HeapWhy::NoHeap => "NoHeap",
+        HeapWhy::BadLine => "BadLine",
+        HeapWhy::Count => "Count",
+        HeapWhy::Dangling => "Dangling",
+        HeapWhy::Shape => "Shape",
+        HeapWhy::NoPlaces => "NoPlaces",
     }
 }
 
@@ -167,6 +193,20 @@ fn put_ops_fault<K: Sink>(
     put_placed(out, sink, line, ops_why_name(why))
 }
 
+// Puts the line of a fault of a heap file.
+fn put_heap_fault<K: Sink>(
+    out: &mut Out,
+    sink: &mut K,
+    line: u32,
+    why: HeapWhy,
+) -> Result<(), Failed>
+    requires { out.old.failed ≡ false }
+    ensures { Puts (K.taken sink.old) out.old (status_text (Status.HeapFault line why)) result (K.taken sink.new) out.new }
+{
+    out.put(sink, b"domlock: heap line ")?;
+    put_placed(out, sink, line, heap_why_name(why))
+}
+
 fn put_status<K: Sink>(status: &Status, out: &mut Out, sink: &mut K) -> Result<(), Failed>
     requires { out.old.failed ≡ false }
     ensures { Puts (K.taken sink.old) out.old (status_text status.now) result (K.taken sink.new) out.new }
@@ -187,6 +227,7 @@ fn put_status<K: Sink>(status: &Status, out: &mut Out, sink: &mut K) -> Result<(
         Status::OpsFault { file, line, why } => put_ops_fault(out, sink, file, line, why),
         Status::WriteFault => out.put(sink, b"domlock: write fault\n"),
         Status::Memory => out.put(sink, b"domlock: out of memory\n"),
+        Status::HeapFault { line, why } => put_heap_fault(out, sink, line, why),
     }
 }
 
@@ -213,5 +254,6 @@ pub fn exit_code(status: &Status) -> u8
         Status::OpsFault { .. } => 5,
         Status::WriteFault => 6,
         Status::Memory => 7,
+        Status::HeapFault { .. } => 8,
     }
 }

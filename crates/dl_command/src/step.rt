@@ -5,7 +5,6 @@ ghost use Rattle.dl_io.specs.Taken.{Taken};
 ghost use Rattle.dl_ir.specs.CallForms.{AreCallsOf};
 ghost use Rattle.dl_ir.specs.Checked.{IsChecked};
 ghost use Rattle.dl_ir.specs.Cover.{Covers};
-ghost use Rattle.dl_ir.specs.Heap.{start_objects};
 ghost use Rattle.dl_shape.specs.Pool.{moves_of, in_rising_versions};
 ghost use Rattle.dl_shape.specs.Replay.{replayed};
 ghost use Rattle.dl_history.specs.Histories.{joined, AreByCaller};
@@ -14,6 +13,7 @@ ghost use Rattle.dl_schedule.specs.Rules.{IsGiveOf};
 ghost use Rattle.dl_trace.specs.Runs.{Run as ScheduledRun};
 ghost use Rattle.dl_command.specs.Promise.{Finishes, IsScheduled, Prints, report_of};
 ghost use Rattle.dl_command.specs.Scheduled.{IsAtEnd, IsReady, IsRoom};
+ghost use Rattle.dl_command.specs.Texts.{CanStart, heap_of};
 ghost use Rattle.dl_command.specs.Words.{Text};
 
 use crate::loading::Input;
@@ -44,14 +44,15 @@ pub struct Ready {
     pub room: Room,
 }
 
-/// Takes all memory of a scheduled run of calls from the start heap of their module, with so many hidden objects at a time
-/// at most.
+/// Takes all memory of a scheduled run of calls from the heap that is given, or else the start heap of their module, with so
+/// many hidden objects at a time at most.
 pub fn make_ready(alloc: Global, input: &Input, places: u32) -> Result<Ready, AllocError>
     requires places { places ≤ 65536 }
     requires checked { IsChecked input.now.source }
     requires some { 1 ≤ length input.now.all.items }
     requires few { length input.now.all.items ≤ 64 }
     requires calls { All (AreCallsOf input.now.source) input.now.all.items }
+    requires start { CanStart input.now.source places (heap_of input.now) }
     ensures { IfOk result (IsReady input.now places) }
 {
     codes_of_modules();
@@ -61,7 +62,10 @@ pub fn make_ready(alloc: Global, input: &Input, places: u32) -> Result<Ready, Al
     let total = total_of(files);
     let merging = MergeRoom::new(alloc, total)?;
     let refusals = Vec::with_capacity(alloc, total as usize)?;
-    let core = Core::start(alloc, code, places, &sizes)?;
+    let core = match &input.heap {
+        Some(heap) => Core::over(alloc, code, heap, places, &sizes)?,
+        None => Core::start(alloc, code, places, &sizes)?,
+    };
     Ok(Ready {
         core,
         room: Room { merging, refusals },
@@ -74,8 +78,8 @@ pub fn close_run(input: &Input, core: Core, room: Room) -> Run
     requires room { IsRoom input.now room }
     requires calls { All (AreCallsOf input.now.source) input.now.all.items }
     requires callers { All (IsGiveOf (length input.now.all.items)) input.now.schedule }
-    ensures scheduled { (places : ℕ) (end : ScheduledRun) → IsAtEnd input.now places end core → IsScheduled input.now.source (start_objects input.now.source) input.now.schedule input.now.all.items places end result.history result.refusals }
-    ensures heap { result.closed.heap.objects ≡ replayed input.now.source input.now.all.items (start_objects input.now.source) result.history.entries }
+    ensures scheduled { (places : ℕ) (end : ScheduledRun) → IsAtEnd input.now places end core → IsScheduled input.now.source (heap_of input.now) input.now.schedule input.now.all.items places end result.history result.refusals }
+    ensures heap { result.closed.heap.objects ≡ replayed input.now.source input.now.all.items (heap_of input.now) result.history.entries }
     ensures moves { result.history.moves ≡ in_rising_versions (moves_of input.now.source input.now.all.items result.history.entries) }
     ensures refusals { (joined result.closed.refusals ≡ result.refusals) × AreByCaller result.closed.refusals }
     ensures covers { Covers input.now.all.items result.history.entries result.refusals }
@@ -107,13 +111,13 @@ fn write_behind<K: Sink>(
     requires few { length input.now.all.items ≤ 64 }
     requires calls { All (AreCallsOf input.now.source) input.now.all.items }
     requires covers { Covers input.now.all.items run.now.history.entries run.now.refusals }
-    requires heap { run.now.closed.heap.objects ≡ replayed input.now.source input.now.all.items (start_objects input.now.source) run.now.history.entries }
+    requires heap { run.now.closed.heap.objects ≡ replayed input.now.source input.now.all.items (heap_of input.now) run.now.history.entries }
     requires moves { run.now.history.moves ≡ in_rising_versions (moves_of input.now.source input.now.all.items run.now.history.entries) }
     requires refusals { (joined run.now.closed.refusals ≡ run.now.refusals) × AreByCaller run.now.closed.refusals }
-    ensures { (start : Taken) (text : Text) → OnOk traced (Passes start nothing text (K.taken sink.old) out.old) → OnErr traced (Breaks start nothing text (K.taken sink.old)) → Prints result (text ++ report_of input.now.source (start_objects input.now.source) input.now.all.items run.now.history.entries run.now.refusals) start (K.taken sink.new) }
+    ensures { (start : Taken) (text : Text) → OnOk traced (Passes start nothing text (K.taken sink.old) out.old) → OnErr traced (Breaks start nothing text (K.taken sink.old)) → Prints result (text ++ report_of input.now.source (heap_of input.now) input.now.all.items run.now.history.entries run.now.refusals) start (K.taken sink.new) }
 {
     match traced {
-        Ok(_) => match put_run(input, run, out, sink) {
+        Ok(_) => match put_run(&input.source, input.all.as_slice(), run, out, sink) {
             Ok(()) => Status::Done,
             Err(Failed) => Status::WriteFault,
         },

@@ -6,13 +6,14 @@ ghost use Rattle.dl_ir.specs.CallForms.{AreCallsOf};
 ghost use Rattle.dl_ir.specs.Checked.{IsChecked};
 ghost use Rattle.dl_command.specs.Promise.{Finishes, Ends, nothing_done};
 ghost use Rattle.dl_schedule.specs.Rules.{IsGiveOf};
+ghost use Rattle.dl_command.specs.Texts.{CanStart, heap_of};
 ghost use Rattle.dl_command.specs.Wishes.{Comes, Keeps, still_wish_of_words, wish_by, wish_of_words};
 ghost use Rattle.dl_command.specs.Words.{MayHave, task_of};
 ghost use Rattle.dl_command.specs.Work.{FinishesWork};
 
 use crate::loading::{Input, read_input};
 use crate::numbers::{Asked, asked_of};
-use crate::run::{run_input, run_over, write_run};
+use crate::run::{run_from, run_over, start_heap, write_run};
 use crate::show::write_shown;
 use crate::status::Status;
 use crate::step::{make_ready, run_steps};
@@ -52,17 +53,27 @@ fn nothing(alloc: Global, status: Status) -> Outcome
     }
 }
 
-// Runs the calls of a command one after another from the start heap, and writes the report.
-fn serial<K: Sink>(alloc: Global, input: &Input, places: u32, out: &mut K) -> Outcome
-    requires places { (1 ≤ places) × (places ≤ 65536) }
-    requires checked { IsChecked input.now.source }
-    requires one { length input.now.all.items ≡ 1 }
-    requires calls { All (AreCallsOf input.now.source) input.now.all.items }
-    ensures { Finishes Verb.Serial input.now places (K.taken out.old) (K.taken out.new) result.status result.history result.refusals }
+// Runs the calls of a command one after another from the heap that is given or the start heap, and writes the report.
+fn serial<K: Sink>(alloc: Global, input: Input, places: u32, out: &mut K) -> Outcome
+    requires places { places ≤ 65536 }
+    requires checked { IsChecked input.source }
+    requires one { length input.all.items ≡ 1 }
+    requires calls { All (AreCallsOf input.source) input.all.items }
+    requires start { CanStart input.source places (heap_of input) }
+    ensures { Finishes Verb.Serial input places (K.taken out.old) (K.taken out.new) result.status result.history result.refusals }
 {
-    match run_input(alloc, input, places) {
+    let Input {
+        source,
+        heap,
+        all,
+        ..
+    } = input;
+    let Ok(start) = start_heap(alloc, &source, heap, places) else {
+        return nothing(alloc, Status::Memory);
+    };
+    match run_from(alloc, &source, start, places, all.as_slice()) {
         Ok(run) => {
-            let status = write_run(input, &run, out);
+            let status = write_run(&source, all.as_slice(), &run, out);
             Outcome {
                 status,
                 history: run.history,
@@ -73,7 +84,7 @@ fn serial<K: Sink>(alloc: Global, input: &Input, places: u32, out: &mut K) -> Ou
     }
 }
 
-// Runs the calls of a command side by side from the start heap, and writes the report.
+// Runs the calls of a command side by side from the heap that is given or the start heap, and writes the report.
 fn run<R: Threads + Wait + Sync, G: Ground, K: Sink, T: Gate>(
     rt: &R,
     alloc: Global,
@@ -87,11 +98,12 @@ fn run<R: Threads + Wait + Sync, G: Ground, K: Sink, T: Gate>(
     requires some { 1 ≤ length input.now.all.items }
     requires few { length input.now.all.items ≤ 64 }
     requires calls { All (AreCallsOf input.now.source) input.now.all.items }
+    requires start { CanStart input.now.source places (heap_of input.now) }
     ensures { Finishes Verb.Run input.now places (K.taken out.old) (K.taken out.new) result.status result.history result.refusals }
 {
     match run_over::<R, G, T>(rt, alloc, input, places, gate) {
         Ok(run) => {
-            let status = write_run(input, &run, out);
+            let status = write_run(&input.source, input.all.as_slice(), &run, out);
             Outcome {
                 status,
                 history: run.history,
@@ -102,7 +114,7 @@ fn run<R: Threads + Wait + Sync, G: Ground, K: Sink, T: Gate>(
     }
 }
 
-// Runs the calls of a command by its schedule from the start heap, and writes the trace and the report.
+// Runs the calls of a command by its schedule from the heap that is given or the start heap, and writes the trace and the report.
 fn step<K: Sink>(alloc: Global, input: &Input, places: u32, out: &mut K) -> Outcome
     requires places { places ≤ 65536 }
     requires checked { IsChecked input.now.source }
@@ -110,6 +122,7 @@ fn step<K: Sink>(alloc: Global, input: &Input, places: u32, out: &mut K) -> Outc
     requires few { length input.now.all.items ≤ 64 }
     requires calls { All (AreCallsOf input.now.source) input.now.all.items }
     requires callers { All (IsGiveOf (length input.now.all.items)) input.now.schedule }
+    requires start { CanStart input.now.source places (heap_of input.now) }
     ensures { Finishes Verb.Step input.now places (K.taken out.old) (K.taken out.new) result.status result.history result.refusals }
 {
     match make_ready(alloc, input, places) {
@@ -167,7 +180,7 @@ fn serial_command<F: Files, K: Sink>(
     ensures { Ends (Some (task_of command.now)) (F.source files.old) (F.source files.new) (K.taken out.old) (K.taken out.new) result.status result.history result.refusals }
 {
     match read_input(alloc, files, command) {
-        Ok(input) => serial(alloc, &input, command.places, out),
+        Ok(input) => serial(alloc, input, command.places, out),
         Err(status) => nothing(alloc, status),
     }
 }

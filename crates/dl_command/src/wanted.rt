@@ -1,6 +1,6 @@
 //! The files that a command wants behind the module, in the order in which they are read.
 
-ghost use Rattle.std.specs.Prelude.{◌≡◌, ◌≤◌, ◌++◌, map, IfOk, OnOk, length};
+ghost use Rattle.std.specs.Prelude.{◌≡◌, ◌≤◌, ◌++◌, map, option_map, IfOk, OnOk, length};
 ghost use Rattle.dl_command.specs.Wanted as spec;
 ghost use Rattle.dl_command.specs.Wanted.{operations_from, wanted_held};
 ghost use Rattle.dl_command.specs.Words.{task_of};
@@ -11,6 +11,8 @@ use std::alloc::{AllocError, Global};
 /// What a file behind the module is to be.
 #[derive(Clone, Copy, Debug, PartialEq, Eq)]
 pub enum Form {
+    /// A heap of the module with at most so many hidden objects.
+    Heap { places: u32 },
     /// A schedule of so many callers.
     Schedule { callers: u32 },
     /// Operations of the module.
@@ -63,8 +65,29 @@ fn add_step<'a>(wanted: &mut Vec<WantedFile<'a>>, paths: &[&'a str]) -> Result<(
     add_operations(wanted, 2, operations)
 }
 
+/// The number of the heap file.
+pub const HEAP_FILE: u32 = 65_535;
+
+// Adds the heap file, where one is given.
+fn add_heap<'a>(
+    wanted: &mut Vec<WantedFile<'a>>,
+    places: u32,
+    heap: Option<&'a str>,
+) -> Result<(), AllocError>
+    ensures { OnOk result (map wanted_held wanted.new.items ≡ map wanted_held wanted.old.items ++ spec.heap_file places (option_map (λ path. path.now) heap)) }
+{
+    if let Some(path) = heap {
+        wanted.push(WantedFile {
+            number: HEAP_FILE,
+            form: Form::Heap { places },
+            path,
+        })?;
+    }
+    Ok(())
+}
+
 /// The files that a command wants behind the module, in the order in which they are read. Files are numbered by their
-/// words.
+/// words, and the heap file has a number of its own.
 pub fn wanted_files<'a>(
     alloc: Global,
     command: &Command<'a>,
@@ -73,6 +96,7 @@ pub fn wanted_files<'a>(
     ensures { IfOk result (λ wanted. map wanted_held wanted.items ≡ spec.wanted (task_of command.now)) }
 {
     let mut wanted = Vec::new(alloc);
+    add_heap(&mut wanted, command.places, command.heap)?;
     match command.verb {
         Verb::Step => add_step(&mut wanted, command.rest.as_slice())?,
         Verb::Serial | Verb::Run | Verb::Show => {

@@ -65,6 +65,8 @@ pub struct Command<'a> {
     pub rest: Vec<&'a str>,
     /// How many hidden objects there may be at a time.
     pub places: u32,
+    /// The path of the heap file from which a run starts, where one is given.
+    pub heap: Option<&'a str>,
 }
 
 /// Why words give no command.
@@ -95,17 +97,20 @@ struct Line<'a> {
     first: &'a str,
     rest: Vec<&'a str>,
     places: u32,
+    heap: Option<&'a str>,
 }
 
-// A row of the table of commands: what its word asks for, and how many words REST has at least and at most.
+// A row of the table of commands: what its word asks for, how many words REST has at least and at most, and whether it
+// takes `--heap`.
 #[derive(Clone, Copy)]
 struct CommandRow {
     verb: Verb,
     fewest: usize,
     most: usize,
+    takes_heap: bool,
 }
 
-// The command line: COMMAND, FIRST, any number of words REST, and `--places N` anywhere among them.
+// The command line: COMMAND, FIRST, any number of words REST, and `--places N` and `--heap FILE` anywhere among them.
 fn command_line<'a>(alloc: Global) -> Result<clap::Command<'a>, AllocError>
     ensures { IfOk result (λ line. app_of line ≡ spec.command_line) }
 {
@@ -116,11 +121,13 @@ fn command_line<'a>(alloc: Global) -> Result<clap::Command<'a>, AllocError>
         .long("places")
         .value_parser(clap::value_parser!(u32).range(1..=65_536))
         .default_value("4096");
+    let heap = Arg::new(alloc, "heap").long("heap");
     let line = clap::Command::new(alloc, "domlock").no_binary_name(true);
     let line = line.arg(command)?;
     let line = line.arg(first)?;
     let line = line.arg(rest)?;
-    Ok(line.arg(places)?)
+    let line = line.arg(places)?;
+    Ok(line.arg(heap)?)
 }
 
 // The words REST of the command line.
@@ -147,12 +154,14 @@ fn line_of<'a>(alloc: Global, matches: &ArgMatches<'a>) -> Result<Line<'a>, Word
     let Some(places) = matches.get_one::<u32>("places") else {
         return Err(WordsFault::Usage);
     };
+    let heap = matches.get_str("heap");
     match rest_of(alloc, matches) {
         Ok(rest) => Ok(Line {
             command,
             first,
             rest,
             places,
+            heap,
         }),
         Err(_) => Err(WordsFault::Memory),
     }
@@ -167,26 +176,31 @@ fn row_of(word: &str) -> Option<CommandRow>
             verb: Verb::Serial,
             fewest: 1,
             most: 1,
+            takes_heap: true,
         }),
         "run" => Some(CommandRow {
             verb: Verb::Run,
             fewest: 1,
             most: 64,
+            takes_heap: true,
         }),
         "step" => Some(CommandRow {
             verb: Verb::Step,
             fewest: 2,
             most: 65,
+            takes_heap: true,
         }),
         "show" => Some(CommandRow {
             verb: Verb::Show,
             fewest: 0,
             most: 0,
+            takes_heap: false,
         }),
         "work" => Some(CommandRow {
             verb: Verb::Work,
             fewest: 2,
             most: 2,
+            takes_heap: false,
         }),
         _ => None,
     }
@@ -201,9 +215,13 @@ fn command_by(line: Line<'_>) -> Option<Command<'_>>
         first,
         rest,
         places,
+        heap,
     } = line;
     let row = row_of(command)?;
     if rest.len() < row.fewest || row.most < rest.len() {
+        return None;
+    }
+    if heap.is_some() && !row.takes_heap {
         return None;
     }
     Some(Command {
@@ -211,6 +229,7 @@ fn command_by(line: Line<'_>) -> Option<Command<'_>>
         first,
         rest,
         places,
+        heap,
     })
 }
 
