@@ -15,7 +15,7 @@ ghost use Rattle.dl_replay.specs.Steps.{GoesOn, IsFaultHere};
 use crate::copies::{copied, make_room};
 use dl_history::{History, call_of};
 use dl_ir::{Answer, Call, Calls, End, Entry, Heap, Module, Name};
-use dl_serial::run_op;
+use dl_serial::{greatest_ticket, run_op};
 use std::alloc::{AllocError, Global};
 use thiserror::Error;
 
@@ -171,15 +171,4 @@ fn allocs(source: &Module, call: &Call) -> u32
         Some(op) => op.allocs,
         None => 0,
     }
-}
-
-// The greatest ticket of a heap's names.
-fn greatest_ticket(heap: &Heap) -> u64
-    ensures { result ≡ greatest_ticket heap.now.objects }
-{
-    let mut greatest = 0;
-    for (name, _) in heap.iter() {
-        greatest = greatest.max(name.ticket);
-    }
-    greatest
 }

@@ -8,4 +8,4 @@ mod serving;
 mod steps;
 
 pub use operations::run_op;
-pub use serving::{Served, run_calls};
+pub use serving::{Served, greatest_ticket, run_calls};

@@ -42,6 +42,17 @@ pub struct Line {
     pub version: u64,
 }
 
+/// The greatest ticket of a heap's names. A root's is 0.
+pub fn greatest_ticket(heap: &Heap) -> u64
+    ensures { result ≡ greatest_ticket heap.now.objects }
+{
+    let mut greatest = 0;
+    for (name, _) in heap.iter() {
+        greatest = greatest.max(name.ticket);
+    }
+    greatest
+}
+
 /// Runs the operations of caller 1 one after another, with tickets from `first` on, one above those of the heap. An operation is refused exactly
 /// where the places less the hidden objects are below the number of objects that it may make. Where memory is wanting,
 /// also because the heap has no room, the heap is spent: it is of no use but to be dropped.
