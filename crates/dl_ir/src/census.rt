@@ -200,6 +200,7 @@ fn remark(names: &mut Table<()>, objects: &Table<Obj>, name: Name, fitted: bool,
     ensures room { names.new.room ≡ names.old.room }
 {
     if fitted != fits {
-        mark(names, name, is_open(objects, name), fits);
+        let is_open = fits && is_open(objects, name);
+        mark(names, name, is_open, fits);
     }
 }
