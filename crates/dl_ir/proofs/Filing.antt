@@ -4,7 +4,7 @@ use Rattle.std.specs.Prelude.{is_some, count_by, nat_le, ◌==◌}
 use Rattle.std.specs.Option.{option_map}
 use Rattle.std.specs.Ordering.{eq_by_cmp, is_eq}
 use Rattle.std.specs.FinMap as map
-use Rattle.std.specs.FinMap.{FinMap, len-remove, len-empty, get-empty}
+use Rattle.std.specs.FinMap.{FinMap, len-remove, len-empty, get-empty, same_map}
 use Rattle.std.proofs.lemmas.Bool.{eqb-true}
 use Rattle.std.proofs.lemmas.List.Sums.{sum_by-append, count_by-le-length}
 use Rattle.std.proofs.lemmas.List.{take_more}
@@ -16,8 +16,9 @@ use Rattle.dl_ir.specs.declared.objects.Obj.{Obj}
 use Rattle.dl_ir.specs.declared.census.Census.{Census}
 use Rattle.dl_ir.specs.Heap.{Objects, name_cmp}
 use Rattle.dl_ir.specs.References.{name_eq, refers_to, target_in}
-use Rattle.dl_ir.specs.Census.{open_at, is_none, is_many, IsFiledAt, IsFiled, IsFiledBut, marked, Changes, AreThere}
-use Rattle.dl_ir.proofs.NameOrder.{names_total, name_eq_itself}
+use Rattle.dl_ir.specs.Census.{open_at, is_none, is_many, IsFiledAt, IsFiled, IsFiledBut, marked, with_count, Changes, AreThere}
+use Rattle.dl_ir.specs.Rows.{Rows}
+use Rattle.dl_ir.proofs.NameOrder.{names_total, exact_names, name_eq_itself}
 use Rattle.dl_ir.proofs.Lookups.{same_or_not, got_put, got_beside, gone, got_left, has_marked, has_beside}
 use Rattle.dl_ir.proofs.Subsets.{room_for}
 
@@ -66,6 +67,49 @@ filed c k count but there =
 -- where it is filed, it is so but for any name
 pub but_any : (c : Census) (k : Name) → IsFiled c → IsFiledBut k c
 but_any c k is = record { each = λ n other. is.each n; rooms = is.rooms }
+
+-- what has a count that was written is there
+pub counted_there : (c : Census) (k : Name) (count : ℕ) → IsFiled (with_count k count c) → map.contains_key c.objects.rows k ≡ true
+counted_there c k count is = sym (is.each k).counted ∙ ap is_some (got_put c.counts.rows k count)
+
+-- a count that is written back is as it was
+put_again : (m : FinMap name_cmp ℕ) (k : Name) (a b : ℕ) → map.get m k ≡ Some b → map.insert (map.insert m k a) k b ≡ m
+put_again m k a b is = same_map names_total exact_names _ _ (λ q. elim (same_or_not q k) [
+  | inl same ↦ ap (map.get (map.insert (map.insert m k a) k b)) same ∙ got_put (map.insert m k a) k b ∙ sym (ap (map.get m) same ∙ is)
+  | inr other ↦ got_beside (map.insert m k a) k b q other ∙ got_beside m k a q other
+])
+
+pub recounted : (c : Census) (k : Name) (now before : ℕ) → IsFiled c → map.get c.counts.rows k ≡ Some before → IsFiled (with_count k before (with_count k now c))
+recounted c k now before filed is = subst (λ m. IsFiled (record c { counts = record c.counts { rows = m } })) (sym (put_again c.counts.rows k now before is)) filed
+
+-- what is filed by the count before is filed by the count now once the name is marked by that
+pub refiled_as : (c : Census) (k : Name) (before count : ℕ) (loose shared : Rows (Unit {0})) → IsFiled (with_count k before c) → map.get c.counts.rows k ≡ Some count
+    → map.contains_key loose.rows k ≡ (open_at k (map.get c.objects.rows k) && (count == 0))
+    → ((n : Name) → eq_by_cmp name_cmp n k ≡ false → map.contains_key loose.rows n ≡ map.contains_key c.loose.rows n) → loose.room ≡ c.loose.room
+    → map.contains_key shared.rows k ≡ (open_at k (map.get c.objects.rows k) && nat_le 2 count)
+    → ((n : Name) → eq_by_cmp name_cmp n k ≡ false → map.contains_key shared.rows n ≡ map.contains_key c.shared.rows n) → shared.room ≡ c.shared.room
+    → IsFiled (record { objects = c.objects; counts = c.counts; loose = loose; shared = shared })
+refiled_as c k before count loose shared filed now loose_here loose_beside loose_same shared_here shared_beside shared_same =
+    let new : Census = record { objects = c.objects; counts = c.counts; loose = loose; shared = shared } in
+    let here : IsFiledAt new k = record {
+      counted = ap is_some now ∙ sym (counted_there c k before filed);
+      loose = loose_here ∙ ap (λ o. open_at k (map.get c.objects.rows k) && is_none o) (sym now);
+      shared = shared_here ∙ ap (λ o. open_at k (map.get c.objects.rows k) && is_many o) (sym now);
+    } in
+    record {
+      each = λ n. elim (same_or_not n k) as (λ _. IsFiledAt new n) [
+        | inl same ↦ subst (IsFiledAt new) (sym same) here
+        | inr other ↦
+            let old = filed.each n in
+            let count_same = got_beside c.counts.rows k before n other in
+            record {
+              counted = ap is_some (sym count_same) ∙ old.counted;
+              loose = loose_beside n other ∙ old.loose ∙ ap (λ o. open_at n (map.get c.objects.rows n) && is_none o) count_same;
+              shared = shared_beside n other ∙ old.shared ∙ ap (λ o. open_at n (map.get c.objects.rows n) && is_many o) count_same;
+            }
+      ];
+      rooms = record { within = filed.rooms.within; counts = filed.rooms.counts; loose = loose_same ∙ filed.rooms.loose; shared = shared_same ∙ filed.rooms.shared };
+    }
 
 module _ (c : Census) (k : Name) (but : IsFiledBut k c) (there : map.contains_key c.objects.rows k ≡ true) where
   within : {X : Type 0} (few : FinMap name_cmp X) → ((n : Name) → eq_by_cmp name_cmp n k ≡ false → map.contains_key few n ≡ true → map.contains_key c.objects.rows n ≡ true)

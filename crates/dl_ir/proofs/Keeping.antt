@@ -84,7 +84,7 @@ has : {X : Type 0} (o : Option X) → is_some o ≡ true → (x : X) × (o ≡ S
 has None is = cc
 has (Some x) is = (x, refl)
 
-has_not : {X : Type 0} (o : Option X) → is_some o ≡ false → o ≡ None
+pub has_not : {X : Type 0} (o : Option X) → is_some o ≡ false → o ≡ None
 has_not None is = refl
 has_not (Some x) is = cc
 
@@ -348,7 +348,7 @@ module _ (c : Census) (d : Bool) (kept : IsKept c d) (name : Name) where
       kept.small
 
   -- nothing was there to be taken out
-  same_left : None ≡ map.get c.objects.rows name → map.remove c.objects.rows name ≡ c.objects.rows
+  pub same_left : None ≡ map.get c.objects.rows name → map.remove c.objects.rows name ≡ c.objects.rows
   same_left none = same_map names_total exact_names _ _ (λ q. elim (same_or_not q name) [
     | inl same ↦ ap (map.get (map.remove c.objects.rows name)) same ∙ gone c.objects.rows name ∙ none ∙ ap (map.get c.objects.rows) (sym same)
     | inr other ↦ got_left c.objects.rows name q other

@@ -1,5 +1,5 @@
 -- What a binary search finds among sorted entries.
-use Rattle.std.proofs.Common.{◌≡◌, ℕ, zero, suc, ◌<◌, ◌≤◌, [], ◌∷◌, length, get_or, refl, sym, subst, ◌∙◌, T, Result, Ok, Err, IfOk, IfErr, inl, inr, arith}
+use Rattle.std.proofs.Common.{◌≡◌, ℕ, zero, suc, ◌-◌, ◌<◌, ◌≤◌, [], ◌∷◌, length, get_or, refl, sym, subst, ◌∙◌, T, Result, Ok, Err, IfOk, IfErr, inl, inr, arith}
 use Rattle.std.specs.List.Sorted.{IsSearchInRange, IsBinarySearchResult, IsNonDecreasingBy, IsPartitionPoint}
 use Rattle.std.specs.Ordering.{ordering_index}
 use Rattle.std.specs.declared.cmp.Ordering.{Ordering}
@@ -56,6 +56,19 @@ is_at {X} k (e ∷ es) zero d sorted within tied = tied
 is_at {X} k (e ∷ es) (suc at) d sorted within tied =
     let before = below_each e.0 es at d (first_of_both _ _ sorted) (omega arith) in
     (sym (alike_right names_total _ k e.0 tied) ∙ before, is_at k es at d (second_of_both _ _ sorted) (omega arith) tied)
+
+-- a name above the last is above all
+above : {X : Type 0} → (k : Name) (e : Name × X) (es : Held X) (d : Name × X) → T (is_sorted name_cmp (e ∷ es)) → name_cmp (get_or (e ∷ es) (length es) d).0 k ≡ Less → IsGap k (e ∷ es) (suc (length es))
+above {X} k e [] d sorted last = (last, tt)
+above {X} k e (f ∷ es) d sorted last =
+    let before : name_cmp e.0 (get_or (f ∷ es) (length es) d).0 ≡ Less = below_each e.0 (f ∷ es) (length es) d (first_of_both _ _ sorted) (omega arith) in
+    (names_total.trans e.0 (get_or (f ∷ es) (length es) d).0 k before last, above k f es d (second_of_both _ _ sorted) last)
+
+pub gap_above : {X : Type 0} → (k : Name) (es : Held X) (d : Name × X) → T (is_sorted name_cmp es) → 0 < length es → name_cmp (get_or es (length es - 1) d).0 k ≡ Less → IsGap k es (length es)
+gap_above {X} k [] d sorted some last = absurd (omega arith)
+gap_above {X} k (e ∷ es) d sorted some last =
+    let at : length (e ∷ es) - 1 ≡ length es = omega arith in
+    above k e es d sorted (subst (λ i. name_cmp (get_or (e ∷ es) i d).0 k ≡ Less) at last)
 
 -- where those before are less and those behind greater there is a gap
 is_gap : {X : Type 0} → (k : Name) (es : Held X) (at : ℕ) → at ≤ length es → IsPartitionPoint (λ (e : Name × X). name_cmp e.0 k ≡ Less) (λ (e : Name × X). name_cmp e.0 k ≡ Greater) es at → IsGap k es at

@@ -49,6 +49,10 @@ pub record IsFiledBut (but : Name) (census : Census) : Type 0 where
   pub each : (name : Name) → eq_by_cmp name_cmp name but ≡ false → IsFiledAt census name
   pub rooms : HasRooms census
 
+-- The census in which an object has this count.
+abbrev pub with_count : Name → ℕ → Census → Census
+with_count name count census = record census { counts = record census.counts { rows = map.insert census.counts.rows name count } }
+
 -- The names of a table, one of them marked or not.
 abbrev pub marked : Bool → map.FinMap name_cmp (Unit {0}) → Name → map.FinMap name_cmp (Unit {0})
 marked belongs names name = if belongs then map.insert names name tt else map.remove names name

@@ -1,8 +1,10 @@
 //! The objects of a heap with what is counted and filed beside them.
 
-ghost use Rattle.std.specs.Prelude.{◌≡◌, ◌&&◌, ◌+◌, ◌^◌, ◌<◌, ◌≤◌, ℕ, true, Some, None, IfOk, OnSome, length, count_by, ◌∷◌, []};
+ghost use Rattle.std.specs.Prelude.{◌≡◌, ◌&&◌, ◌+◌, ◌^◌, ◌<◌, ◌≤◌, ℕ, true, false, Some, None, IfOk, OnSome, length, count_by, ◌∷◌, []};
+ghost use Rattle.std.specs.Ordering.{eq_by_cmp};
 ghost use Rattle.std.specs.FinMap as map;
-ghost use Rattle.dl_ir.specs.Census.{open_at, marked, IsFiled, IsFiledBut, Gains, Loses, AreThere};
+ghost use Rattle.dl_ir.specs.Census.{open_at, marked, with_count, IsFiled, IsFiledBut, Gains, Loses, AreThere};
+ghost use Rattle.dl_ir.specs.Heap.{name_cmp};
 ghost use Rattle.dl_ir.specs.References.{refers_to, target_in};
 ghost use Rattle.dl_ir.specs.declared.names.Name.{Name};
 
@@ -31,8 +33,8 @@ impl Census {
         Ok(Census {
             objects: Table::new(alloc, room)?,
             counts: Table::new(alloc, room)?,
-            loose: Table::new(alloc, room)?,
-            shared: Table::new(alloc, room)?,
+            loose: Table::new_for_few(alloc, room)?,
+            shared: Table::new_for_few(alloc, room)?,
         })
     }
 
@@ -50,6 +52,30 @@ impl Census {
         mark(&mut self.shared, name, is_open, count >= 2);
     }
 
+    // Files the name of an object that had another count before.
+    fn refile(&mut self, name: Name, before: u64, count: u64)
+        requires filed { IsFiled (with_count name before self.old) }
+        requires now { map.get self.old.counts.rows name ≡ Some count }
+        ensures filed { IsFiled self.new }
+        ensures counts { self.new.counts ≡ self.old.counts }
+        ensures objects { self.new.objects ≡ self.old.objects }
+    {
+        remark(
+            &mut self.loose,
+            &self.objects,
+            name,
+            before == 0,
+            count == 0,
+        );
+        remark(
+            &mut self.shared,
+            &self.objects,
+            name,
+            before >= 2,
+            count >= 2,
+        );
+    }
+
     /// Counts a value that a field holds now. Answers whether what it refers to is there.
     pub fn gain(&mut self, value: Value) -> bool
         requires filed { IsFiled self.old }
@@ -62,10 +88,10 @@ impl Census {
         let Some(target) = target_in(value) else {
             return true;
         };
-        match self.counts.get(target) {
-            Some(count) => {
-                let more = *count + 1;
-                self.file(target, more);
+        let guess = self.objects.guess(target);
+        match self.counts.recount(target, guess, 1, 0) {
+            Some(before) => {
+                self.refile(target, before, before + 1);
                 true
             }
             None => false,
@@ -82,9 +108,9 @@ impl Census {
         let Some(target) = target_in(value) else {
             return;
         };
-        if let Some(count) = self.counts.get(target) {
-            let fewer = count.saturating_sub(1);
-            self.file(target, fewer);
+        let guess = self.objects.guess(target);
+        if let Some(before) = self.counts.recount(target, guess, 0, 1) {
+            self.refile(target, before, before.saturating_sub(1));
         }
     }
 
@@ -162,5 +188,19 @@ fn mark(names: &mut Table<()>, name: Name, is_open: bool, fits: bool)
         names.put(name, ());
     } else {
         names.remove(name);
+    }
+}
+
+// Marks a name where what is told of its count changes.
+fn remark(names: &mut Table<()>, objects: &Table<Obj>, name: Name, fitted: bool, fits: bool)
+    requires before { map.contains_key names.old.rows name ≡ (open_at name (map.get objects.now.rows name) && fitted) }
+    requires room { map.get names.old.rows name ≡ None → map.len names.old.rows < names.old.room }
+    ensures here { map.contains_key names.new.rows name ≡ (open_at name (map.get objects.now.rows name) && fits) }
+    ensures beside { (n : Name) → eq_by_cmp name_cmp n name ≡ false → map.contains_key names.new.rows n ≡ map.contains_key names.old.rows n }
+    ensures room { names.new.room ≡ names.old.room }
+{
+    if fitted != fits {
+        let is_open = fits && is_open(objects, name);
+        mark(names, name, is_open, fits);
     }
 }

@@ -1,6 +1,6 @@
 //! The heap: objects under their names, with what settling has to know of them at hand.
 
-ghost use Rattle.std.specs.Prelude.{◌≡◌, ℕ, [], ◌∷◌, ◌+◌, ◌^◌, ◌<◌, ◌≤◌, ◌↔◌, IsTrue, IfOk, OnOk, Some, length, slice_get, count_by, option_and_then, None, if◌then◌else◌};
+ghost use Rattle.std.specs.Prelude.{◌≡◌, ℕ, [], ◌∷◌, ◌+◌, ◌^◌, ◌<◌, ◌≤◌, ◌↔◌, IsTrue, IfOk, OnOk, Some, length, slice_get, count_by, None, if◌then◌else◌};
 ghost use Rattle.std.specs.Option.{option_copied};
 ghost use Rattle.std.specs.List.{AllByRecursion};
 ghost use Rattle.std.specs.FinMap as map;
@@ -102,8 +102,7 @@ impl Heap {
     pub fn set_field(&mut self, name: Name, field: usize, value: Value)
         ensures { self.new ≡ record self.old { objects = with_field self.old.objects name field value } }
     {
-        if let Some(before) = field_of(&self.census.objects, name, field) {
-            self.census.objects.set_field(name, field, value);
+        if let Some(before) = self.census.objects.replace_field(name, field, value) {
             self.census.lose(before);
             let there = self.census.gain(value);
             self.may_dangle |= !there;
@@ -137,6 +136,9 @@ impl Heap {
     pub fn remove(&mut self, name: Name)
         ensures { self.new ≡ record self.old { objects = map.remove self.old.objects name } }
     {
+        if self.get(name).is_none() {
+            return;
+        }
         let refs = self.refs(name);
         if let Some(object) = self.census.take(name) {
             self.census.lose_all(object.fields.as_slice());
@@ -222,16 +224,6 @@ fn count_of(counts: &Table<u64>, name: Name) -> Option<u64>
 {
     match counts.get(name) {
         Some(count) => Some(*count),
-        None => None,
-    }
-}
-
-// The value of a field of the object of this name, if there are both.
-fn field_of(objects: &Table<Obj>, name: Name, field: usize) -> Option<Value>
-    ensures { result ≡ option_and_then (λ (object : Obj). slice_get object.fields field) (map.get objects.now.rows name) }
-{
-    match objects.get(name) {
-        Some(object) => object.fields.get(field),
         None => None,
     }
 }

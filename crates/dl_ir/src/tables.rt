@@ -1,6 +1,6 @@
 //! Tables of values under names.
 
-ghost use Rattle.std.specs.Prelude.{◌≡◌, ◌↔◌, true, [], ◌+◌, ◌<◌, ◌≤◌, IsTrue, IfOk, IfErr, None, Some, Option, length, take, slice_get, slice_set, vec_capacity};
+ghost use Rattle.std.specs.Prelude.{◌≡◌, ◌↔◌, true, [], ◌+◌, ◌-◌, ◌^◌, ◌<◌, ◌≤◌, ℕ, IsTrue, IfOk, IfErr, None, Some, Option, option_and_then, length, take, slice_get, slice_set, vec_capacity};
 ghost use Rattle.std.specs.Option.{option_copied, option_map, option_map_or};
 ghost use Rattle.std.specs.FinMap as map;
 ghost use Rattle.dl_ir.specs.Heap.{name_cmp, with_field};
@@ -52,10 +52,26 @@ impl<V> Table<V> {
     pub fn new(alloc: Global, room: usize) -> Result<Table<V>, AllocError>
         ensures { IfOk result (λ t. t ≡ record { rows = map.empty; room = room }) }
     {
+        let hints = Hints::new(alloc, room.saturating_mul(2))?;
+        Table::with_hints(alloc, room, hints)
+    }
+
+    /// An empty table with memory for so many values, of which few are there at a time, so that nothing is remembered of
+    /// their places.
+    pub(crate) fn new_for_few(alloc: Global, room: usize) -> Result<Table<V>, AllocError>
+        ensures { IfOk result (λ t. t ≡ record { rows = map.empty; room = room }) }
+    {
+        let hints = Hints::new(alloc, 1)?;
+        Table::with_hints(alloc, room, hints)
+    }
+
+    // An empty table with memory for so many values.
+    fn with_hints(alloc: Global, room: usize, hints: Hints) -> Result<Table<V>, AllocError>
+        ensures { IfOk result (λ t. t ≡ record { rows = map.empty; room = room }) }
+    {
         let Some(memory) = room.checked_mul(2) else {
             return Err(AllocError);
         };
-        let hints = Hints::new(alloc, memory)?;
         Ok(Table {
             entries: Vec::with_capacity(alloc, memory)?,
             len: 0,
@@ -73,6 +89,11 @@ impl<V> Table<V> {
             Ok(at) => self.entries[at].1.as_ref(),
             Err(_) => None,
         }
+    }
+
+    /// A place at which the name may stand, here or in a table that had the same names put in.
+    pub(crate) fn guess(&self, name: Name) -> usize {
+        self.hints.guess(name)
     }
 
     /// The least name, if there is one.
@@ -162,8 +183,18 @@ impl Table<Obj> {
     pub fn set_field(&mut self, name: Name, field: usize, value: Value)
         ensures { self.new ≡ record self.old { rows = with_field self.old.rows name field value } }
     {
-        if let Ok(at) = place_near(&self.entries, self.hints.guess(name), name) {
-            set_at(&mut self.entries, at, field, value);
+        self.replace_field(name, field, value);
+    }
+
+    /// Writes a field of an object, and answers the value that it had. Nothing changes where there is no such object or
+    /// field.
+    pub(crate) fn replace_field(&mut self, name: Name, field: usize, value: Value) -> Option<Value>
+        ensures before { result ≡ option_and_then (λ (object : Obj). slice_get object.fields field) (map.get self.old.rows name) }
+        ensures written { self.new ≡ record self.old { rows = with_field self.old.rows name field value } }
+    {
+        match place_near(&self.entries, self.hints.guess(name), name) {
+            Ok(at) => set_at(&mut self.entries, at, field, value),
+            Err(_) => None,
         }
     }
 
@@ -177,6 +208,22 @@ impl Table<Obj> {
     }
 }
 
+impl Table<u64> {
+    /// Adds to the number under a name and then takes away from it, down to 0, and answers what it was. Nothing changes
+    /// where the name has none. The name is looked for at the guessed place first.
+    pub(crate) fn recount(&mut self, name: Name, guess: usize, more: u64, fewer: u64) -> Option<u64>
+        requires { (count : ℕ) → map.get self.old.rows name ≡ Some count → 0 < more → count + more < 2 ^ 64 }
+        ensures before { result ≡ map.get self.old.rows name }
+        ensures recounted { (count : ℕ) → map.get self.old.rows name ≡ Some count → self.new ≡ record self.old { rows = map.insert self.old.rows name (count + more - fewer) } }
+        ensures absent { map.get self.old.rows name ≡ None → self.new ≡ self.old }
+    {
+        match place_near(&self.entries, guess, name) {
+            Ok(at) => recount_at(&mut self.entries, at, more, fewer),
+            Err(_) => None,
+        }
+    }
+}
+
 // Where the name is among sorted entries, or where it would stand.
 fn place<V>(entries: &[(Name, V)], name: Name) -> Result<usize, usize>
     requires { map.is_sorted name_cmp entries.now ≡ true }
@@ -186,7 +233,8 @@ fn place<V>(entries: &[(Name, V)], name: Name) -> Result<usize, usize>
     entries.binary_search_by_key(&name, |(held, _)| *held)
 }
 
-// Where the name is among sorted entries, or where it would stand. Where it is at the guessed place nothing is searched.
+// Where the name is among sorted entries, or where it would stand. Where it is at the guessed place, or above all others,
+// nothing is searched.
 fn place_near<V>(entries: &[(Name, V)], guess: usize, name: Name) -> Result<usize, usize>
     requires { map.is_sorted name_cmp entries.now ≡ true }
     ensures found { IfOk result (IsAt name entries.now) }
@@ -195,7 +243,19 @@ fn place_near<V>(entries: &[(Name, V)], guess: usize, name: Name) -> Result<usiz
     if guess < entries.len() && entries[guess].0.cmp(&name).is_eq() {
         return Ok(guess);
     }
+    if is_above(entries, name) {
+        return Err(entries.len());
+    }
     place(entries, name)
+}
+
+// Whether there are names and this one is above them.
+fn is_above<V>(entries: &[(Name, V)], name: Name) -> bool
+    requires { map.is_sorted name_cmp entries.now ≡ true }
+    ensures { result ≡ true → IsGap name entries.now (length entries.now) }
+{
+    let len = entries.len();
+    len > 0 && entries[len - 1].0.cmp(&name).is_lt()
 }
 
 // The first place from this one on at which a name has a value, where none has one before.
@@ -300,14 +360,48 @@ fn take_at<V>(entries: &mut Vec<(Name, Option<V>)>, at: usize) -> Option<V>
     entries[at].1.take()
 }
 
-// Writes a field of the object at a place, if there is one.
-fn set_at(entries: &mut Vec<(Name, Option<Obj>)>, at: usize, field: usize, value: Value)
+// Writes a field of the object at a place, if there is one, and answers the value that it had.
+fn set_at(
+    entries: &mut Vec<(Name, Option<Obj>)>,
+    at: usize,
+    field: usize,
+    value: Value,
+) -> Option<Value>
     requires { at < length entries.old.items }
+    ensures before { (e : Name × Option Obj) → slice_get entries.old.items at ≡ Some e → result ≡ option_and_then (λ (object : Obj). slice_get object.fields field) e.1 }
     ensures field { (e : Name × Option Obj) → slice_get entries.old.items at ≡ Some e → entries.new.items ≡ slice_set entries.old.items at (e.0, option_map (λ (object : Obj). record object { fields = slice_set object.fields field value }) e.1) }
     ensures capacity { vec_capacity entries.new ≡ vec_capacity entries.old }
 {
-    if let Some(object) = &mut entries[at].1 {
-        object.fields.set(field, value);
+    match &mut entries[at].1 {
+        Some(object) => {
+            let before = object.fields.get(field);
+            object.fields.set(field, value);
+            before
+        }
+        None => None,
+    }
+}
+
+// Adds to the number at a place and then takes away from it, and answers what it was, if there is one.
+fn recount_at(
+    entries: &mut Vec<(Name, Option<u64>)>,
+    at: usize,
+    more: u64,
+    fewer: u64,
+) -> Option<u64>
+    requires within { at < length entries.old.items }
+    requires fits { (e : Name × Option ℕ) (count : ℕ) → slice_get entries.old.items at ≡ Some e → e.1 ≡ Some count → 0 < more → count + more < 2 ^ 64 }
+    ensures before { (e : Name × Option ℕ) → slice_get entries.old.items at ≡ Some e → result ≡ e.1 }
+    ensures recounted { (e : Name × Option ℕ) → slice_get entries.old.items at ≡ Some e → entries.new.items ≡ slice_set entries.old.items at (e.0, option_map (λ (count : ℕ). count + more - fewer) e.1) }
+    ensures capacity { vec_capacity entries.new ≡ vec_capacity entries.old }
+{
+    match &mut entries[at].1 {
+        Some(count) => {
+            let before = *count;
+            *count = (before + more).saturating_sub(fewer);
+            Some(before)
+        }
+        None => None,
     }
 }
 

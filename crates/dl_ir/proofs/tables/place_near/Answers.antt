@@ -1,11 +1,5 @@
-use Rattle.std.proofs.Common.{rules, ◌≡◌, ◌↔◌, true, [], ◌+◌, ◌<◌, ◌≤◌, IsTrue, IfOk, IfErr, None, Some, Option, length, take, slice_get, slice_set, vec_capacity, ℕ, ◌-◌, ◌*◌, ◌/◌, ◌%◌, Bool, false, nat_eq, nat_lt, List, ◌∷◌, ◌++◌, slice_index_or, bit_and, bit_or, Fits, w8, w32, w64, Bor, MutBor}
-use Rattle.std.specs.Option.{option_copied, option_map, option_map_or}
-use Rattle.std.specs.FinMap as map
-use Rattle.dl_ir.specs.Heap.{name_cmp, with_field}
-use Rattle.dl_ir.specs.References.{with_seal}
-use Rattle.dl_ir.specs.Places.{IsAt, IsGap, present}
-use Rattle.dl_ir.specs.declared.names.Name.{Name}
-use Rattle.dl_ir.specs.declared.objects.Obj.{Obj}
+use Rattle.std.proofs.Common.{◌≡◌, true, slice_index_or}
+use Rattle.dl_ir.specs.Heap.{name_cmp}
 use Rattle.dl_ir.proofs.tables.place_near.Goals as goal
 use Rattle.std.proofs.Common.{is_eq, sym, subst, refl, T, ◌∙◌}
 use Rattle.std.specs.declared.cmp.Ordering.{Ordering}

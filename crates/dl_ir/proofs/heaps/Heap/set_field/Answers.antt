@@ -1,22 +1,24 @@
-use Rattle.std.proofs.Common.{refl, ap}
-use Rattle.dl_ir.proofs.Keeping.{filed_field, lost_few, kept_field, no_field}
+use Rattle.std.proofs.Common.{refl, subst}
+use Rattle.dl_ir.specs.Census.{IsKept}
+use Rattle.dl_ir.proofs.Keeping.{filed_field, lost_few, kept_field, no_field, over}
 use Rattle.dl_ir.proofs.heaps.Heap.set_field.Goals as goal
 
 pub lose-requires : goal.lose-requires
 lose-requires c =
-    rw c.set_field.ensures (record { filed = filed_field c.self.inside.census c.self.inside.may_dangle c.self.invariant c.args.name c.args.field c.in-Some.before c.args.value c.in-Some.ensures })
+    rw c.in-Some.ensures.written (record { filed = filed_field c.self.inside.census c.self.inside.may_dangle c.self.invariant c.args.name c.args.field c.in-Some.before c.args.value c.in-Some.ensures.before })
 
 pub gain-there-requires-clause-few : goal.gain-there-requires-clause-few
 gain-there-requires-clause-few c =
-    lost_few c.self.inside.census c.self.inside.may_dangle c.self.invariant c.args.name c.args.field c.in-Some.before c.args.value c.in-Some.ensures c.lose.new.self.counts.rows c.lose.ensures.counts
+    lost_few c.self.inside.census c.self.inside.may_dangle c.self.invariant c.args.name c.args.field c.in-Some.before c.args.value c.in-Some.ensures.before c.lose.new.self.counts.rows c.lose.ensures.counts
 
 pub invariant_of-self : goal.invariant_of-self
 invariant_of-self c =
-    kept_field c.self.inside.census c.self.inside.may_dangle c.self.invariant c.args.name c.args.field c.in-Some.before c.args.value c.in-Some.ensures
+    kept_field c.self.inside.census c.self.inside.may_dangle c.self.invariant c.args.name c.args.field c.in-Some.before c.args.value c.in-Some.ensures.before
     c.gain-there.new.self c.lose.new.self.counts.rows c.gain-there.result
-    (rw (c.gain-there.ensures.objects, c.lose.ensures.objects, c.set_field.ensures) refl) c.gain-there.ensures.filed c.lose.ensures.counts c.gain-there.ensures.counts
-    (rw (c.lose.ensures.objects, c.set_field.ensures) at c.gain-there.ensures.there)
+    (rw (c.gain-there.ensures.objects, c.lose.ensures.objects, c.in-Some.ensures.written) refl) c.gain-there.ensures.filed c.lose.ensures.counts c.gain-there.ensures.counts
+    (rw (c.lose.ensures.objects, c.in-Some.ensures.written) at c.gain-there.ensures.there)
 
-pub returns-in_default : goal.returns-in_default
-returns-in_default c =
-    rw (← c.self.view_is) (ap (λ objects. record { objects = objects; room = c.self.inside.census.objects.room }) (no_field c.self.inside.census.objects.rows c.args.name c.args.field c.args.value c.in_default.ensures))
+pub invariant_of-self-in_default : goal.invariant_of-self-in_default
+invariant_of-self-in_default c =
+    rw c.in_default.ensures.written (
+    subst (λ h. IsKept (over c.self.inside.census h) c.self.inside.may_dangle) (no_field c.self.inside.census.objects.rows c.args.name c.args.field c.args.value c.in_default.ensures.before) c.self.invariant)
