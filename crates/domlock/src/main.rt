@@ -5,6 +5,8 @@
 #[cfg(test)]
 mod emit_tests;
 #[cfg(test)]
+mod heap_tests;
+#[cfg(test)]
 mod rows;
 #[cfg(test)]
 mod run_tests;

@@ -5,7 +5,8 @@ use dl_io::MemSink;
 use dl_modules::{LISTS, SKEW, TREAP};
 use std::test::Fail;
 
-const SEAL: &[u8] = b"domlock 1
+/// Two fields that can refer to one object.
+pub const SEAL: &[u8] = b"domlock 1
 root PAIR 1 { a: ITEM, b: ITEM }
 node ITEM { v: int }
 op tie(r: PAIR) allocs 1 fuel 0 {
@@ -88,7 +89,8 @@ const SKEW_OPS: &[u8] = b"insert 0 5
 insert 0 3
 ";
 
-const SKEW_REPORT: &[u8] = b"domlock report 1
+/// The report of two inserts.
+pub const SKEW_REPORT: &[u8] = b"domlock report 1
 answers 2
 1.1 ok 0
 1.2 ok 0
@@ -274,7 +276,8 @@ cut 0
 tie 0
 ";
 
-const SEAL_REPORT: &[u8] = b"domlock report 1
+/// The report of a run that seals an object.
+pub const SEAL_REPORT: &[u8] = b"domlock report 1
 answers 4
 1.1 ok 1 breach 1.1
 1.2 sealed 1.1

@@ -13,7 +13,7 @@ const TWICE: &[u8] =
     b"domlock report 1\nanswers 2\n1.1 ok 5\n1.2 ok 12\nhistory 2\n1 1.1 add 0 5\n2 1.2 add 0 7\npool 0\nheap 2 kept 0\n0.0 CELL val=12\n0.1 CELL val=0\nend\n";
 
 // The words, each one behind a space.
-fn words_of(alloc: Global, line: &str) -> Result<Words, Fail> {
+pub fn words_of(alloc: Global, line: &str) -> Result<Words, Fail> {
     let mut items = Vec::new(alloc);
     for word in line.split(' ') {
         items.push(String::from_str(alloc, word)?)?;
