@@ -13,7 +13,7 @@ use Rattle.dl_ir.specs.declared.calls.Call.{Call}
 use Rattle.dl_ir.specs.declared.closed.Closed.{Closed}
 use Rattle.dl_ir.specs.declared.modules.Module.{Module}
 use Rattle.dl_ir.specs.CallForms.{AreCallsOf, IsCallOf}
-use Rattle.dl_ir.specs.Heap.{Objects, hidden_count, start_objects}
+use Rattle.dl_ir.specs.Heap.{Objects, hidden_count}
 use Rattle.dl_shape.specs.Pool.{IsLawfulPool, HasVersionsOfMovesAlone, in_rising_versions, moves_of}
 use Rattle.dl_shape.specs.Replay.{replayed, IsLegal}
 use Rattle.dl_shape.specs.Rising.{in_rising}
@@ -38,6 +38,7 @@ use Rattle.dl_command.specs.declared.step.Ready.{Ready}
 use Rattle.dl_command.specs.Causes.{Cut}
 use Rattle.dl_command.specs.Promise.{IsScheduled}
 use Rattle.dl_command.specs.Scheduled.{IsAtEnd, IsReady, plan_from}
+use Rattle.dl_command.specs.Texts.{heap_of}
 use Rattle.dl_command.proofs.OverLemmas.{entries_few, is_run, refusals_few, tickets_apart, versions_apart}
 
 -- lists that a function makes, joined
@@ -135,19 +136,19 @@ module _ (input : Input) (places : ℕ) (calls : All (AreCallsOf input.source) i
           pool = rw (history_same, refused_same) run_out.run.pool;
           versions = rw history_same run_out.run.versions;
           refusals = by_callers;
-          heap = heap_is ∙ run_out.run.heap ∙ ap (replayed input.source input.all.items (start_objects input.source)) (sym history_same);
+          heap = heap_is ∙ run_out.run.heap ∙ ap (replayed input.source input.all.items (heap_of input)) (sym history_same);
           free = rw (free_is, heap_is) run_out.run.free;
         };
       }
 
       pub is_scheduled : (history : Seen) (refused : List Refusal) → history.entries ≡ history_left closed → history.moves ≡ in_rising_versions (moves_of input.source input.all.items history.entries)
-          → refused ≡ joined closed.refusals → IsScheduled input.source (start_objects input.source) input.schedule input.all.items places end history refused
+          → refused ≡ joined closed.refusals → IsScheduled input.source (heap_of input) input.schedule input.all.items places end history refused
       is_scheduled history refused entries_of_it moves refused_of_it = record {
         run = is.run;
         entries = entries_of_it ∙ history_same;
         refused = refused_of_it ∙ refused_same;
-        heap_at_end = run_out.run.heap ∙ ap (replayed input.source input.all.items (start_objects input.source)) (sym (entries_of_it ∙ history_same));
-        is_run = is_run input.source input.all.items places closed left_so calls history refused entries_of_it moves refused_of_it;
+        heap_at_end = run_out.run.heap ∙ ap (replayed input.source input.all.items (heap_of input)) (sym (entries_of_it ∙ history_same));
+        is_run = is_run input.source (heap_of input) input.all.items places closed left_so calls history refused entries_of_it moves refused_of_it;
       }
 
 -- a text that broke off broke off with more behind it
