@@ -10,15 +10,15 @@ use Rattle.dl_command.proofs.PlanLemmas.{is_plan}
 use Rattle.dl_command.proofs.OverLemmas.{entries_few, is_run, refusals_few, runs_over, tickets_apart, versions_apart}
 use Rattle.dl_command.proofs.run.run_over.Goals as goal
 
-pub open_over-requires : goal.open_over-requires
-open_over-requires g c =
+pub open_over-requires-clause-plan : goal.open_over-requires-clause-plan
+open_over-requires-clause-plan g c κs within =
     let source = c.args.input.now.source in
     let heap = heap_of c.args.input.now in
     let all : List (List Call) = c.args.input.now.all.items in
     let files : c.as_slice-files.result.now ≡ all = search rules in
     let sizes : c.deref.result.now ≡ map length all = search rules in
     let is = is_plan c.codes_of_modules.ensures.plain source heap all c.args.places c.requires.checked c.requires.start c.requires.calls c.requires.some c.requires.few c.requires.places in
-    (search rules, search rules, rw (c.in_ok-code.ensures, sizes) is)
+    rw (c.in_ok-code.ensures, sizes) is
 
 pub run_files-closed-requires-clause-plan : goal.run_files-closed-requires-clause-plan
 run_files-closed-requires-clause-plan g c κs within =
