@@ -1,11 +1,10 @@
-use Rattle.std.proofs.Common.{◌≡◌, ◌∙◌, refl, sym, ap, subst, arith}
+use Rattle.std.proofs.Common.{◌≡◌, ◌∙◌, sym, ap, subst, arith}
 use Rattle.std.proofs.lemmas.List.{append-nil}
 use Rattle.dl_ir.specs.declared.answers.Entry.{Entry as OneEntry}
 use Rattle.dl_ir.specs.Heap.{View}
 use Rattle.dl_shape.specs.Rising.{in_rising, AreApart}
 use Rattle.dl_shape.proofs.Legal.{legal_rises}
 use Rattle.dl_shape.proofs.Rising.{rising_is, rises_apart}
-use Rattle.dl_shape.proofs.Starting.{greatest_ticket-start, hidden_count-start, start_is_startable}
 use Rattle.dl_history.specs.Histories.{joined, AreByCaller}
 use Rattle.dl_closed.proofs.Histories.{never_seals}
 use Rattle.dl_command.proofs.RunLemmas.{one_element, one_by_caller, one_in_order}

@@ -1,8 +1,6 @@
-use Rattle.std.proofs.Common.{◌≡◌, ◌∙◌, ◌++◌, ◌≤◌, [], ap, sym, arith}
-use Rattle.std.specs.Prelude.{vec_capacity, vec_len}
+use Rattle.std.proofs.Common.{◌∙◌, ◌++◌, ap, sym, arith}
 use Rattle.dl_ir.specs.Heap.{start_objects}
 use Rattle.dl_history.specs.Histories.{joined}
-use Rattle.dl_command.specs.Work.{plan_from_start}
 use Rattle.dl_command.proofs.LeftLemmas.{machine_history, machine_runs}
 use Rattle.dl_command.proofs.OverLemmas.{entries_few, is_run, refusals_few, tickets_apart, versions_apart}
 use Rattle.dl_command.proofs.scheduled.run_left.Goals as goal

@@ -1,5 +1,4 @@
-use Rattle.std.proofs.Common.{◌≡◌, ◌∙◌, ◌≤◌, ℕ, List, ap, arith, length, map, refl, rules, subst, sym}
-use Rattle.std.specs.Prelude.{sum_by, vec_capacity}
+use Rattle.std.proofs.Common.{◌≡◌, ◌∙◌, ℕ, List, ap, length, map, refl, rules, subst, sym}
 use Rattle.dl_ir.specs.declared.calls.Call.{Call}
 use Rattle.dl_core.specs.Core.{Core}
 use Rattle.dl_core.specs.Heaps.{plain}
