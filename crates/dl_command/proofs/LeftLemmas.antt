@@ -1,5 +1,5 @@
 -- What a machine leaves whose callers have run their operations.
-use Rattle.std.proofs.Common.{◌≡◌, ◌∙◌, ℕ, zero, suc, ◌+◌, ◌<◌, ◌≤◌, Some, List, [], ◌∷◌, ◌++◌, length, map, get_or, inl, inr, refl, sym, ap, ap₂, subst, arith}
+use Rattle.std.proofs.Common.{◌≡◌, ◌∙◌, ℕ, zero, suc, ◌+◌, Some, List, [], ◌∷◌, ◌++◌, length, map, inl, inr, refl, sym, ap, ap₂, subst, arith}
 use Rattle.std.specs.Prelude.{All, slice_get}
 use Rattle.std.specs.List.{flat_map}
 use Rattle.std.specs.List.Sorted.{IsNonDecreasingBy}
@@ -20,7 +20,7 @@ use Rattle.dl_shape.specs.Rising.{in_rising}
 use Rattle.dl_core.specs.Closing.{AreOfCallers, all_of, history_left}
 use Rattle.dl_core.specs.Core.{Core, entries_of, refusals_of}
 use Rattle.dl_core.specs.Heaps.{plain}
-use Rattle.dl_core.specs.Machines.{AreAllIdle, HasCaller, Machine, callers_in, opened, plan_at}
+use Rattle.dl_core.specs.Machines.{Machine, callers_in, opened, plan_at}
 use Rattle.dl_core.specs.Plans.{Plan, IsCaller, IsPlan, source_of}
 use Rattle.dl_core.specs.Reached.{calls_of}
 use Rattle.dl_core.specs.Sound.{callers_of, numbers_from}
@@ -33,7 +33,7 @@ use Rattle.dl_trace.specs.Laws.{AreFilesOf, IsRunOut, ScheduledRunsAreOver}
 use Rattle.dl_trace.specs.Ran.{HasRunQuietly, MayRun}
 use Rattle.dl_trace.specs.Runs.{Run, ScheduleRun}
 use Rattle.dl_history.specs.Histories.{Seen}
-use Rattle.dl_command.specs.Promise.{IsRun}
+use Rattle.dl_command.specs.Promise.{IsRun, plan_of}
 use Rattle.dl_command.specs.Work.{IsScheduledRun, plan_from_start}
 
 -- lists made of numbers, one after another
@@ -83,8 +83,8 @@ module _ (plan : Plan) (core : Core) (all : List (List Call)) (closed : Closed) 
   }
 
 -- the operations are those of a plan's callers
-pub plan_files : (source : Module) (all : List (List Call)) (places : ℕ) → All (AreCallsOf source) all → AreFilesOf (plan_from_start source all places) all
-plan_files source all places calls = record { sizes = refl; calls = each }
+pub plan_files : (source : Module) (heap : Objects) (all : List (List Call)) (places : ℕ) → All (AreCallsOf source) all → AreFilesOf (plan_of source heap all places) all
+plan_files source heap all places calls = record { sizes = refl; calls = each }
   where
     each : (caller : ℕ) → All (IsCallOf source) (calls_of all caller)
     each zero = All-nil (IsCallOf source)
@@ -110,31 +110,36 @@ machine_history source all machine closed sizes over heap entries refusals free 
   left_refusals (plan_from_start source all machine.places) machine.state all closed over heap (rw sizes at entries) (rw sizes at refusals) free,
 )
 
+-- the callers of a schedule are those of a plan
+pub plan_callers : (source : Module) (heap : Objects) (all : List (List Call)) (places : ℕ) (gives : List Give) → All (IsGiveOf (length all)) gives
+    → All (λ (give : Give). IsCaller (plan_of source heap all places) give.caller) gives
+plan_callers source heap all places gives callers = λ k d within.
+    let who = (callers k d within).caller in
+    let many = length-map all (λ (calls : List Call). length calls) in
+    record { from_one = omega (arith, who.low); to_last = omega (arith, who.high, many) }
+
+-- the machine is at the start of its run
+pub record IsOpened (source : Module) (heap : Objects) (all : List (List Call)) (places : ℕ) (gives : List Give) (machine : Machine) : Type 0 where
+  pub is : IsPlan (plan_of source heap all places)
+  pub opened_is : machine ≡ opened (plan_of source heap all places)
+  pub plan_is : plan_at machine ≡ plan_of source heap all places
+  pub calls : All (AreCallsOf source) all
+  pub callers : All (IsGiveOf (length all)) gives
+
+-- so a scheduled run may begin
+pub may_run : {source : Module} {heap : Objects} {all : List (List Call)} {places : ℕ} {gives : List Give} {machine : Machine}
+    → IsOpened source heap all places gives machine → MayRun machine all gives
+may_run {source = source} {heap = heap} {all = all} {places = places} {gives = gives} {machine = machine} at = record {
+  is = subst IsPlan (sym at.plan_is) at.is;
+  fresh = at.opened_is ∙ ap opened (sym at.plan_is);
+  are = subst (λ (p : Plan). AreFilesOf p all) (sym at.plan_is) (plan_files source heap all places at.calls);
+  callers = λ k d within.
+      let who = plan_callers source heap all places gives at.callers k d within in
+      let sizes = ap (λ (m : Machine). length m.sizes) at.opened_is in
+      record { from_one = who.from_one; to_last = omega (arith, who.to_last, sizes) };
+}
+
 module _ (source : Module) (all : List (List Call)) (places : ℕ) (gives : List Give) (machine : Machine) where
-  abbrev plan : Plan
-  plan = plan_from_start source all places
-
-  -- the machine is at the start of its run
-  pub record IsOpened : Type 0 where
-    pub is : IsPlan (plan_from_start source all places)
-    pub opened_is : machine ≡ opened (plan_from_start source all places)
-    pub plan_is : plan_at machine ≡ plan_from_start source all places
-    pub calls : All (AreCallsOf source) all
-    pub callers : All (IsGiveOf (length all)) gives
-
-  -- so a scheduled run may begin
-  pub may_run : IsOpened → MayRun machine all gives
-  may_run at = record {
-    is = subst IsPlan (sym at.plan_is) at.is;
-    fresh = at.opened_is ∙ ap opened (sym at.plan_is);
-    are = subst (λ (p : Plan). AreFilesOf p all) (sym at.plan_is) (plan_files source all places at.calls);
-    callers = λ k d within.
-        let who = (at.callers k d within).caller in
-        let sizes : machine.sizes ≡ map (λ (calls : List Call). length calls) all = ap (λ (m : Machine). m.sizes) at.opened_is in
-        let many : length machine.sizes ≡ length all = ap (λ (ns : List ℕ). length ns) sizes ∙ length-map all (λ (calls : List Call). length calls) in
-        record { from_one = omega (arith, who.low); to_last = omega (arith, who.high, many) };
-  }
-
   -- what the machine has come to when the run is over
   pub record IsLeft (after : Machine) (end : Run) : Type 0 where
     pub places_are : after.places ≡ places
@@ -143,23 +148,18 @@ module _ (source : Module) (all : List (List Call)) (places : ℕ) (gives : List
     pub run : ScheduleRun (plan_from_start source all places) all gives end
     pub out : IsRunOut (plan_from_start source all places) all end.core
 
-  pub quiet_left : ScheduledRunsAreOver → IsOpened → (after : Machine) (counts : Counts) (ran : HasRunQuietly machine after all gives counts) → IsLeft after ran.end
+  pub quiet_left : ScheduledRunsAreOver → IsOpened source (start_objects source) all places gives machine → (after : Machine) (counts : Counts) (ran : HasRunQuietly machine after all gives counts) → IsLeft after ran.end
   quiet_left over at after counts ran = record {
     places_are = ap (λ (m : Machine). m.places) ran.state ∙ ap (λ (m : Machine). m.places) at.opened_is;
     sizes_are = ap (λ (m : Machine). m.sizes) ran.state ∙ ap (λ (m : Machine). m.sizes) at.opened_is;
     state_is = ap (λ (m : Machine). m.state) ran.state;
     run = scheduled;
-    out = over (plan_from_start source all places) all gives ran.end at.is (plan_files source all places at.calls) named scheduled;
+    out = over (plan_from_start source all places) all gives ran.end at.is (plan_files source (start_objects source) all places at.calls)
+        (plan_callers source (start_objects source) all places gives at.callers) scheduled;
   }
     where
       scheduled : ScheduleRun (plan_from_start source all places) all gives ran.end
       scheduled = subst (λ (p : Plan). ScheduleRun p all gives ran.end) at.plan_is ran.run
-
-      named : All (λ (give : Give). IsCaller (plan_from_start source all places) give.caller) gives
-      named = λ k d within.
-          let who = (at.callers k d within).caller in
-          let many = length-map all (λ (calls : List Call). length calls) in
-          record { from_one = omega (arith, who.low); to_last = omega (arith, who.high, many) }
 
   -- what is left of it is that of the scheduled run
   pub scheduled_is : (after : Machine) (end : Run) → IsLeft after end → (history : Seen) (refusals : List Refusal)

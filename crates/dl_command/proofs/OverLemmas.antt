@@ -1,4 +1,4 @@
--- What callers that ran side by side leave is a run of their calls from the start heap.
+-- What callers that ran side by side leave is a run of their calls.
 use Rattle.std.proofs.Common.{◌≡◌, ◌≢◌, ℕ, suc, ◌≤◌, ◌==◌, cond, true, List, [], ◌∷◌, length, map, get_or, refl, sym, ap, subst, arith}
 use Rattle.std.specs.Prelude.{All, count_by, sum_by}
 use Rattle.std.proofs.lemmas.Bool.Decides.{nat_tests}
@@ -13,7 +13,7 @@ use Rattle.dl_ir.specs.declared.closed.Closed.{Closed}
 use Rattle.dl_ir.specs.declared.modules.Module.{Module}
 use Rattle.dl_ir.specs.declared.moves.Move.{Move}
 use Rattle.dl_ir.specs.CallForms.{AreCallsOf}
-use Rattle.dl_ir.specs.Heap.{start_objects}
+use Rattle.dl_ir.specs.Heap.{Objects}
 use Rattle.dl_shape.specs.Pool.{in_rising_versions, moves_of, moves_of_entry}
 use Rattle.dl_shape.specs.Replay.{IsLegal, replayed}
 use Rattle.dl_shape.specs.Rising.{AreApart}
@@ -23,7 +23,7 @@ use Rattle.dl_closed.proofs.Histories.{never_seals}
 use Rattle.dl_history.specs.Histories.{Seen, joined}
 use Rattle.dl_instr.specs.Code.{code}
 use Rattle.dl_core.specs.Closing.{history_left}
-use Rattle.dl_core.specs.Passes.{first_plan}
+use Rattle.dl_core.specs.Passes.{plan_over}
 use Rattle.dl_core.specs.Plans.{Plan}
 use Rattle.dl_machine.specs.Files.{RunsFiles}
 use Rattle.dl_command.specs.Promise.{IsRun}
@@ -56,7 +56,7 @@ module _ {X : Type 0} (key : X → ℕ) where
       let all = sum_by-cons (has (key (get_or rest k d))) x rest in
       omega (arith, later, all)))
 
-module _ (source : Module) (all : List (List Call)) (places : ℕ) (closed : Closed) (runs : RunsFiles (first_plan (code source) places (map length all)) all closed) where
+module _ (source : Module) (heap : Objects) (all : List (List Call)) (places : ℕ) (closed : Closed) (runs : RunsFiles (plan_over (code source) heap places (map length all)) all closed) where
   abbrev ticket : Entry → ℕ
   ticket entry = entry.ticket
 
@@ -84,7 +84,7 @@ module _ (source : Module) (all : List (List Call)) (places : ℕ) (closed : Clo
 
   module _ (calls : All (AreCallsOf source) all) (history : Seen) (refusals : List Refusal) (entries_are : history.entries ≡ history_left closed)
       (moves_are : history.moves ≡ in_rising_versions (moves_of source all history.entries)) (refusals_are : refusals ≡ joined closed.refusals) where
-    pub is_run : IsRun source (start_objects source) all places history refusals
+    pub is_run : IsRun source heap all places history refusals
     is_run = record {
       covers = rw (entries_are, refusals_are) runs.covers;
       in_order = rw refusals_are (joined_in_order closed.refusals runs.lawful.refusals);
@@ -92,17 +92,17 @@ module _ (source : Module) (all : List (List Call)) (places : ℕ) (closed : Clo
       lawful = rw (entries_are, refusals_are) runs.lawful.pool;
       moves = moves_are;
       versions = rw entries_are runs.lawful.versions;
-      unsealed = λ in_forests. never_seals source all (start_objects source) history.entries calls in_forests legal;
+      unsealed = λ in_forests. never_seals source all heap history.entries calls in_forests legal;
     }
       where
-        legal : IsLegal source all (start_objects source) history.entries
+        legal : IsLegal source all heap history.entries
         legal = rw entries_are runs.lawful.legal
 
-    pub heap_is : closed.heap.objects ≡ replayed source all (start_objects source) history.entries
+    pub heap_is : closed.heap.objects ≡ replayed source all heap history.entries
     heap_is = rw entries_are runs.lawful.heap
 
 -- what is left over a plan is left over this one, where they are the same
-pub runs_over : (source : Module) (all files : List (List Call)) (places : ℕ) (plan : Plan) (closed : Closed) → plan ≡ first_plan (code source) places (map length all) → files ≡ all
-    → RunsFiles plan files closed → RunsFiles (first_plan (code source) places (map length all)) all closed
-runs_over source all files places plan closed same_plan same_files runs =
+pub runs_over : (source : Module) (heap : Objects) (all files : List (List Call)) (places : ℕ) (plan : Plan) (closed : Closed) → plan ≡ plan_over (code source) heap places (map length all) → files ≡ all
+    → RunsFiles plan files closed → RunsFiles (plan_over (code source) heap places (map length all)) all closed
+runs_over source heap all files places plan closed same_plan same_files runs =
     subst (λ (p : Plan). RunsFiles p all closed) same_plan (subst (λ (fs : List (List Call)). RunsFiles plan fs closed) same_files runs)

@@ -1,36 +1,24 @@
 -- What the machine leaves at the end of a scheduled run is a run of its calls.
-use Rattle.std.proofs.Common.{◌≡◌, ℕ, zero, suc, ◌+◌, ◌<◌, ◌≤◌, List, [], ◌∷◌, ◌++◌, map, length, get_or, Result, Ok, Err, OnErr, Some, refl, sym, ◌∙◌, ap, subst, arith, append_assoc, inl, inr}
-use Rattle.std.specs.Prelude.{All, slice_get}
-use Rattle.std.specs.List.{flat_map}
-use Rattle.std.specs.List.Sorted.{IsNonDecreasingBy}
-use Rattle.std.proofs.lemmas.Bool.{cases_lt}
-use Rattle.std.proofs.lemmas.List.{length-map, get_or_past}
-use Rattle.std.proofs.lemmas.List.Elements.{All-nil}
+use Rattle.std.proofs.Common.{◌≡◌, ℕ, List, ◌++◌, map, length, Result, Ok, Err, OnErr, sym, ◌∙◌, ap, subst, append_assoc}
+use Rattle.std.specs.Prelude.{All}
 use Rattle.dl_io.specs.Taken.{Taken}
-use Rattle.dl_ir.specs.declared.answers.Entry.{Entry}
 use Rattle.dl_ir.specs.declared.answers.Refusal.{Refusal}
-use Rattle.dl_ir.specs.declared.calls.Call.{Call}
 use Rattle.dl_ir.specs.declared.closed.Closed.{Closed}
-use Rattle.dl_ir.specs.declared.modules.Module.{Module}
-use Rattle.dl_ir.specs.CallForms.{AreCallsOf, IsCallOf}
-use Rattle.dl_ir.specs.Heap.{Objects, hidden_count, start_objects}
-use Rattle.dl_shape.specs.Pool.{IsLawfulPool, HasVersionsOfMovesAlone, in_rising_versions, moves_of}
-use Rattle.dl_shape.specs.Replay.{replayed, IsLegal}
-use Rattle.dl_shape.specs.Rising.{in_rising}
+use Rattle.dl_ir.specs.CallForms.{AreCallsOf}
+use Rattle.dl_shape.specs.Pool.{in_rising_versions, moves_of}
+use Rattle.dl_shape.specs.Replay.{replayed}
 use Rattle.dl_history.specs.Histories.{Seen, joined}
 use Rattle.dl_text.specs.Writing.{Breaks, nothing}
-use Rattle.dl_core.specs.Closing.{AreOfCallers, IsLawfulEnd, all_of, history_left}
+use Rattle.dl_core.specs.Closing.{all_of, history_left}
 use Rattle.dl_core.specs.Core.{entries_of, refusals_of}
 use Rattle.dl_core.specs.Heaps.{plain}
-use Rattle.dl_core.specs.Machines.{AreAllIdle, HasCaller, Machine, callers_in, opened, plan_at, with_state}
-use Rattle.dl_core.specs.Plans.{IsCaller, Plan}
-use Rattle.dl_core.specs.Reached.{calls_of}
-use Rattle.dl_core.specs.Sound.{callers_of, numbers_from}
-use Rattle.dl_order.specs.Ends.{IsRunOver, all_refusals, history_in}
+use Rattle.dl_core.specs.Machines.{AreAllIdle, Machine, callers_in, plan_at, with_state}
+use Rattle.dl_core.specs.Plans.{Plan}
+use Rattle.dl_core.specs.Sound.{callers_of}
+use Rattle.dl_order.specs.Ends.{all_refusals, history_in}
 use Rattle.dl_machine.specs.Files.{RunsFiles}
-use Rattle.dl_schedule.specs.declared.give.Give.{Give}
 use Rattle.dl_schedule.specs.Rules.{IsGiveOf}
-use Rattle.dl_trace.specs.Laws.{AreFilesOf, IsRunOut, ScheduledRunsAreOver}
+use Rattle.dl_trace.specs.Laws.{IsRunOut, ScheduledRunsAreOver}
 use Rattle.dl_trace.specs.Ran.{MayRun}
 use Rattle.dl_trace.specs.Runs.{Run, ScheduleRun}
 use Rattle.dl_command.specs.declared.loading.Input.{Input}
@@ -38,51 +26,20 @@ use Rattle.dl_command.specs.declared.step.Ready.{Ready}
 use Rattle.dl_command.specs.Causes.{Cut}
 use Rattle.dl_command.specs.Promise.{IsScheduled}
 use Rattle.dl_command.specs.Scheduled.{IsAtEnd, IsReady, plan_from}
-use Rattle.dl_command.proofs.OverLemmas.{entries_few, is_run, refusals_few, tickets_apart, versions_apart}
-
--- lists that a function makes, joined
-flat_all : {X Y : Type 0} (f : X → List Y) (xs : List X) → all_of (map f xs) ≡ flat_map f xs
-flat_all f [] = refl
-flat_all f (x ∷ xs) = ap (λ ys. f x ++ ys) (flat_all f xs)
-
--- what a function makes of the numbers from one on
-one_some : {X : Type 0} {x y : X} → Some x ≡ Some y → x ≡ y
-one_some e = cc
-
-number_in : {Y : Type 0} (f : ℕ → Y) (first n at : ℕ) (y : Y) → slice_get (map f (numbers_from first n)) at ≡ Some y → f (first + at) ≡ y
-number_in f first zero at y there = absurd (cc)
-number_in f first (suc n) zero y there = let here : first + 0 ≡ first = omega arith in ap f here ∙ one_some there
-number_in f first (suc n) (suc at) y there = let later : first + suc at ≡ first + 1 + at = omega arith in ap f later ∙ number_in f (first + 1) n at y there
-
--- the files are those of the plan, and a schedule names its callers
-own_calls : (source : Module) (all : List (List Call)) → All (AreCallsOf source) all → (caller : ℕ) → All (IsCallOf source) (calls_of all caller)
-own_calls source all calls zero = All-nil (IsCallOf source)
-own_calls source all calls (suc place) = elim (cases_lt place (length all)) [
-  | inl within ↦ (calls place [] within).each
-  | inr past ↦ subst (All (IsCallOf source)) (sym (get_or_past all place [] past)) (All-nil (IsCallOf source))
-]
+use Rattle.dl_command.specs.Texts.{heap_of}
+use Rattle.dl_command.proofs.LeftLemmas.{IsOpened, left_history, left_refusals, left_runs, plan_callers, plan_files, may_run as opened_may_run}
+use Rattle.dl_command.proofs.OverLemmas.{is_run}
 
 module _ (input : Input) (places : ℕ) (calls : All (AreCallsOf input.source) input.all.items) (callers : All (IsGiveOf (length input.all.items)) input.schedule) where
   abbrev plan : Plan
   plan = plan_from input places
 
-  files : AreFilesOf plan input.all.items
-  files = record { sizes = refl; calls = own_calls input.source input.all.items calls }
-
-  count : length plan.sizes ≡ length input.all.items
-  count = length-map input.all.items (λ (calls : List Call). length calls)
-
-  gives : All (λ (give : Give). IsCaller plan give.caller) input.schedule
-  gives = λ k d within. let caller = (callers k d within).caller in record { from_one = (let low = caller.low in omega (arith, low)); to_last = (let high = caller.high in omega (arith, high, count)) }
-
   -- the machine may run
   pub may_run : (ready : Ready) → IsReady input places ready → MayRun ready.core input.all.items input.schedule
-  may_run ready is = record {
-    is = rw is.starts is.plan;
-    fresh = is.core ∙ ap opened (sym is.starts);
-    are = rw is.starts files;
-    callers = λ k d within. let caller = gives k d within in let sizes = ap (λ (machine : Machine). length machine.sizes) is.core in record { from_one = caller.from_one; to_last = (let high = caller.to_last in omega (arith, high, sizes)) };
-  }
+  may_run ready is = opened_may_run at_start
+    where
+      at_start : IsOpened input.source (heap_of input) input.all.items places input.schedule ready.core
+      at_start = record { is = is.plan; opened_is = is.core; plan_is = is.starts; calls = calls; callers = callers }
 
   -- and has come to the end
   pub at_end : (ready : Ready) (end : Run) (after : Machine) → IsReady input places ready → ScheduleRun (plan_at ready.core) input.all.items input.schedule end
@@ -95,7 +52,8 @@ module _ (input : Input) (places : ℕ) (calls : All (AreCallsOf input.source) i
 
   module _ (over : ScheduledRunsAreOver) (end : Run) (core : Machine) (is : IsAtEnd input places end core) where
     run_out : IsRunOut plan input.all.items end.core
-    run_out = over plan input.all.items input.schedule end is.plan files gives is.run
+    run_out = over plan input.all.items input.schedule end is.plan (plan_files input.source (heap_of input) input.all.items places calls)
+        (plan_callers input.source (heap_of input) input.all.items places input.schedule callers) is.run
 
     pub resting : AreAllIdle core.state
     resting = rw is.state run_out.idle
@@ -115,39 +73,22 @@ module _ (input : Input) (places : ℕ) (calls : All (AreCallsOf input.source) i
       free_is = free ∙ ap (λ (machine : Machine). machine.state.pool.free) is.state
 
       history_same : history_left closed ≡ history_in plan end.core
-      history_same = ap (in_rising (λ (entry : Entry). entry.ticket)) (ap all_of entries_are ∙ flat_all (entries_of end.core) (callers_of plan))
+      history_same = left_history plan end.core input.all.items closed run_out.run heap_is entries_are refusals_are free_is
 
       refused_same : all_of closed.refusals ≡ all_refusals plan end.core
-      refused_same = ap all_of refusals_are ∙ flat_all (refusals_of end.core) (callers_of plan)
-
-      by_callers : AreOfCallers closed.refusals
-      by_callers at list there =
-          let own : refusals_of end.core (1 + at) ≡ list = number_in (refusals_of end.core) 1 (length plan.sizes) at list (ap (λ (lists : List (List Refusal)). slice_get lists at) (sym refusals_are) ∙ there) in
-          let number : 1 + at ≡ at + 1 = omega arith in
-          subst (λ (caller : ℕ). All (λ (refusal : Refusal). refusal.caller ≡ caller) list × IsNonDecreasingBy (λ (refusal : Refusal). refusal.index) list) number
-          (subst (λ (rs : List Refusal). All (λ (refusal : Refusal). refusal.caller ≡ 1 + at) rs × IsNonDecreasingBy (λ (refusal : Refusal). refusal.index) rs) own (run_out.run.refusals (1 + at)))
+      refused_same = left_refusals plan end.core input.all.items closed run_out.run heap_is entries_are refusals_are free_is
 
       pub left_so : RunsFiles plan input.all.items closed
-      left_so = record {
-        covers = rw (history_same, refused_same) run_out.run.covers;
-        lawful = record {
-          legal = rw history_same run_out.run.legal;
-          pool = rw (history_same, refused_same) run_out.run.pool;
-          versions = rw history_same run_out.run.versions;
-          refusals = by_callers;
-          heap = heap_is ∙ run_out.run.heap ∙ ap (replayed input.source input.all.items (start_objects input.source)) (sym history_same);
-          free = rw (free_is, heap_is) run_out.run.free;
-        };
-      }
+      left_so = left_runs plan end.core input.all.items closed run_out.run heap_is entries_are refusals_are free_is
 
       pub is_scheduled : (history : Seen) (refused : List Refusal) → history.entries ≡ history_left closed → history.moves ≡ in_rising_versions (moves_of input.source input.all.items history.entries)
-          → refused ≡ joined closed.refusals → IsScheduled input.source (start_objects input.source) input.schedule input.all.items places end history refused
+          → refused ≡ joined closed.refusals → IsScheduled input.source (heap_of input) input.schedule input.all.items places end history refused
       is_scheduled history refused entries_of_it moves refused_of_it = record {
         run = is.run;
         entries = entries_of_it ∙ history_same;
         refused = refused_of_it ∙ refused_same;
-        heap_at_end = run_out.run.heap ∙ ap (replayed input.source input.all.items (start_objects input.source)) (sym (entries_of_it ∙ history_same));
-        is_run = is_run input.source input.all.items places closed left_so calls history refused entries_of_it moves refused_of_it;
+        heap_at_end = run_out.run.heap ∙ ap (replayed input.source input.all.items (heap_of input)) (sym (entries_of_it ∙ history_same));
+        is_run = is_run input.source (heap_of input) input.all.items places closed left_so calls history refused entries_of_it moves refused_of_it;
       }
 
 -- a text that broke off broke off with more behind it

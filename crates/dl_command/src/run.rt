@@ -4,6 +4,9 @@ ghost use Rattle.std.specs.Prelude.{◌≡◌, ◌≤◌, ◌<◌, ◌^◌, ◌+
 ghost use Rattle.dl_ir.specs.CallForms.{AreCallsOf};
 ghost use Rattle.dl_ir.specs.Checked.{IsChecked};
 ghost use Rattle.dl_ir.specs.Cover.{Covers};
+ghost use Rattle.dl_core.specs.Closing.{AreFresh};
+ghost use Rattle.dl_core.specs.Passes.{plan_over};
+ghost use Rattle.dl_core.specs.Plans.{IsPlan};
 ghost use Rattle.dl_shape.specs.Pool.{moves_of, in_rising_versions};
 ghost use Rattle.dl_shape.specs.Replay.{replayed};
 ghost use Rattle.dl_history.specs.Histories.{joined, AreByCaller};
@@ -16,7 +19,7 @@ use crate::loading::Input;
 use crate::status::Status;
 use dl_core::Ground;
 use dl_history::{History, MergeRoom, gather, merge, write_report};
-use dl_instr::{codes_of_modules, instrument};
+use dl_instr::{Code, codes_of_modules, instrument};
 use dl_io::{Failed, Sink};
 use dl_ir::{Calls, Closed, Heap, Module, Refusal};
 use dl_machine::{Gate, run_files};
@@ -109,6 +112,24 @@ pub fn total_of(files: &[Calls]) -> u32
     total
 }
 
+// Opens a run of several callers from the heap that is given, or else the start heap of the code's module.
+fn open_over<G: Ground>(
+    alloc: Global,
+    code: Code,
+    given: &Option<Heap>,
+    places: u32,
+    sizes: &[u32],
+) -> Result<(G, Vec<G::Pass>), AllocError>
+    requires plan { IsPlan (plan_over code (first_heap code.source given.now) places sizes.now) }
+    ensures plan { IfOk result (λ opened. G.plan opened.0 ≡ plan_over code (first_heap code.source given.now) places sizes.now) }
+    ensures fresh { IfOk result (λ opened. AreFresh (G.plan opened.0) (G.is_of opened.0) G.view opened.1.items) }
+{
+    match given {
+        Some(heap) => G::over(alloc, code, heap, places, sizes),
+        None => G::start(alloc, code, places, sizes),
+    }
+}
+
 /// Runs the calls of each file side by side, by what runs operations for several callers, from the heap that is given, or
 /// else the start heap of their module, with so many hidden objects at a time at most. All memory is taken before the first
 /// operation begins.
@@ -137,10 +158,7 @@ pub fn run_over<R: Threads + Wait + Sync, G: Ground, T: Gate>(
     let total = total_of(files);
     let room = MergeRoom::new(alloc, total)?;
     let mut refusals = Vec::with_capacity(alloc, total as usize)?;
-    let (all, passes) = match &input.heap {
-        Some(heap) => G::over(alloc, code, heap, places, &sizes)?,
-        None => G::start(alloc, code, places, &sizes)?,
-    };
+    let (all, passes) = open_over::<G>(alloc, code, &input.heap, places, &sizes)?;
     let closed = run_files(rt, all, passes, files, gate);
     let history = merge(&input.source, files, &closed, room);
     gather(closed.refusals.as_slice(), &mut refusals);

@@ -5,6 +5,9 @@ ghost use Rattle.dl_io.specs.Taken.{Taken};
 ghost use Rattle.dl_ir.specs.CallForms.{AreCallsOf};
 ghost use Rattle.dl_ir.specs.Checked.{IsChecked};
 ghost use Rattle.dl_ir.specs.Cover.{Covers};
+ghost use Rattle.dl_core.specs.Machines.{opened, plan_at};
+ghost use Rattle.dl_core.specs.Passes.{plan_over};
+ghost use Rattle.dl_core.specs.Plans.{IsPlan};
 ghost use Rattle.dl_shape.specs.Pool.{moves_of, in_rising_versions};
 ghost use Rattle.dl_shape.specs.Replay.{replayed};
 ghost use Rattle.dl_history.specs.Histories.{joined, AreByCaller};
@@ -13,7 +16,7 @@ ghost use Rattle.dl_schedule.specs.Rules.{IsGiveOf};
 ghost use Rattle.dl_trace.specs.Runs.{Run as ScheduledRun};
 ghost use Rattle.dl_command.specs.Promise.{Finishes, IsScheduled, Prints, report_of};
 ghost use Rattle.dl_command.specs.Scheduled.{IsAtEnd, IsReady, IsRoom};
-ghost use Rattle.dl_command.specs.Texts.{CanStart, heap_of};
+ghost use Rattle.dl_command.specs.Texts.{CanStart, first_heap, heap_of};
 ghost use Rattle.dl_command.specs.Words.{Text};
 
 use crate::loading::Input;
@@ -22,9 +25,9 @@ use crate::status::Status;
 use crate::words::Verb;
 use dl_core::Core;
 use dl_history::{MergeRoom, gather, merge};
-use dl_instr::{codes_of_modules, instrument};
+use dl_instr::{Code, codes_of_modules, instrument};
 use dl_io::{Failed, Sink};
-use dl_ir::Refusal;
+use dl_ir::{Heap, Refusal};
 use dl_text::Out;
 use dl_trace::{Counts, run_schedule, scheduled_runs_are_over};
 use sqlite_items::Items;
@@ -42,6 +45,24 @@ pub struct Room {
 pub struct Ready {
     pub core: Core,
     pub room: Room,
+}
+
+// A machine at the heap that is given, or else at the start heap of the code's module.
+fn core_over(
+    alloc: Global,
+    code: Code,
+    given: &Option<Heap>,
+    places: u32,
+    sizes: &[u32],
+) -> Result<Core, AllocError>
+    requires plan { IsPlan (plan_over code (first_heap code.source given.now) places sizes.now) }
+    ensures opened { IfOk result (λ core. core ≡ opened (plan_over code (first_heap code.source given.now) places sizes.now)) }
+    ensures plan { IfOk result (λ core. plan_at core ≡ plan_over code (first_heap code.source given.now) places sizes.now) }
+{
+    match given {
+        Some(heap) => Core::over(alloc, code, heap, places, sizes),
+        None => Core::start(alloc, code, places, sizes),
+    }
 }
 
 /// Takes all memory of a scheduled run of calls from the heap that is given, or else the start heap of their module, with so
@@ -62,10 +83,7 @@ pub fn make_ready(alloc: Global, input: &Input, places: u32) -> Result<Ready, Al
     let total = total_of(files);
     let merging = MergeRoom::new(alloc, total)?;
     let refusals = Vec::with_capacity(alloc, total as usize)?;
-    let core = match &input.heap {
-        Some(heap) => Core::over(alloc, code, heap, places, &sizes)?,
-        None => Core::start(alloc, code, places, &sizes)?,
-    };
+    let core = core_over(alloc, code, &input.heap, places, &sizes)?;
     Ok(Ready {
         core,
         room: Room { merging, refusals },

@@ -4,5 +4,5 @@ use Rattle.dl_command.proofs.run.put_run.Goals as goal
 
 pub returns-clause-puts : goal.returns-clause-puts
 returns-clause-puts g c =
-    let put = rw (c.as_slice.ensures.value, c.requires.refusals.0, c.requires.heap) at c.in_ok-write_report.ensures.ok in
+    let put = rw c.requires.refusals.0 at c.in_ok-write_report.ensures.ok in
     rw append-nil at (puts_both put c.flush.ensures.puts)

@@ -1,6 +1,6 @@
-use Rattle.std.proofs.Common.{◌≡◌, ◌∙◌, ◌≤◌, ℕ, List, ap, arith, length, map, refl, rules, subst, sym}
-use Rattle.std.specs.Prelude.{sum_by, vec_capacity}
+use Rattle.std.proofs.Common.{◌≡◌, ◌∙◌, ℕ, List, ap, length, map, refl, rules, subst, sym}
 use Rattle.dl_ir.specs.declared.calls.Call.{Call}
+use Rattle.dl_ir.specs.Heap.{start_objects}
 use Rattle.dl_core.specs.Core.{Core}
 use Rattle.dl_core.specs.Heaps.{plain}
 use Rattle.dl_core.specs.Machines.{AreAllIdle, opened}
@@ -27,9 +27,9 @@ run_quiet-counts-requires c =
     let sizes : c.deref.result.now ≡ map length all = search rules in
     let is = starts_plan c.codes_of_modules.ensures.plain source all c.args.places c.requires.checked c.requires.calls c.requires.some c.requires.few c.requires.places in
     let same : first_plan c.in_ok-code.code c.args.places c.deref.result.now ≡ plan_from_start source all c.args.places = rw (c.in_ok-code.ensures, sizes) refl in
-    let at : IsOpened source all c.args.places c.args.schedule.now c.in_ok-core.core
+    let at : IsOpened source (start_objects source) all c.args.places c.args.schedule.now c.in_ok-core.core
     = record { is = is; opened_is = c.in_ok-core.ensures.opened ∙ ap opened same; plan_is = c.in_ok-core.ensures.plan ∙ same; calls = c.requires.calls; callers = c.requires.callers } in
-    may_run source all c.args.places c.args.schedule.now c.in_ok-core.core at
+    may_run at
 
 pub run_left-run-requires-clause-sizes : goal.run_left-run-requires-clause-sizes
 run_left-run-requires-clause-sizes c =
@@ -38,7 +38,7 @@ run_left-run-requires-clause-sizes c =
     let sizes : c.deref.result.now ≡ map length all = search rules in
     let is = starts_plan c.codes_of_modules.ensures.plain source all c.args.places c.requires.checked c.requires.calls c.requires.some c.requires.few c.requires.places in
     let same : first_plan c.in_ok-code.code c.args.places c.deref.result.now ≡ plan_from_start source all c.args.places = rw (c.in_ok-code.ensures, sizes) refl in
-    let at : IsOpened source all c.args.places c.args.schedule.now c.in_ok-core.core
+    let at : IsOpened source (start_objects source) all c.args.places c.args.schedule.now c.in_ok-core.core
     = record { is = is; opened_is = c.in_ok-core.ensures.opened ∙ ap opened same; plan_is = c.in_ok-core.ensures.plan ∙ same; calls = c.requires.calls; callers = c.requires.callers } in
     let left = quiet_left source all c.args.places c.args.schedule.now c.in_ok-core.core c.scheduled_runs_are_over.ensures at c.run_quiet-counts.new.core c.run_quiet-counts.result c.run_quiet-counts.ensures in
     left.sizes_are
@@ -50,7 +50,7 @@ run_left-run-requires-clause-idle c =
     let sizes : c.deref.result.now ≡ map length all = search rules in
     let is = starts_plan c.codes_of_modules.ensures.plain source all c.args.places c.requires.checked c.requires.calls c.requires.some c.requires.few c.requires.places in
     let same : first_plan c.in_ok-code.code c.args.places c.deref.result.now ≡ plan_from_start source all c.args.places = rw (c.in_ok-code.ensures, sizes) refl in
-    let at : IsOpened source all c.args.places c.args.schedule.now c.in_ok-core.core
+    let at : IsOpened source (start_objects source) all c.args.places c.args.schedule.now c.in_ok-core.core
     = record { is = is; opened_is = c.in_ok-core.ensures.opened ∙ ap opened same; plan_is = c.in_ok-core.ensures.plan ∙ same; calls = c.requires.calls; callers = c.requires.callers } in
     let left = quiet_left source all c.args.places c.args.schedule.now c.in_ok-core.core c.scheduled_runs_are_over.ensures at c.run_quiet-counts.new.core c.run_quiet-counts.result c.run_quiet-counts.ensures in
     subst AreAllIdle (sym left.state_is) left.out.idle
@@ -62,7 +62,7 @@ run_left-run-requires-clause-over c =
     let sizes : c.deref.result.now ≡ map length all = search rules in
     let is = starts_plan c.codes_of_modules.ensures.plain source all c.args.places c.requires.checked c.requires.calls c.requires.some c.requires.few c.requires.places in
     let same : first_plan c.in_ok-code.code c.args.places c.deref.result.now ≡ plan_from_start source all c.args.places = rw (c.in_ok-code.ensures, sizes) refl in
-    let at : IsOpened source all c.args.places c.args.schedule.now c.in_ok-core.core
+    let at : IsOpened source (start_objects source) all c.args.places c.args.schedule.now c.in_ok-core.core
     = record { is = is; opened_is = c.in_ok-core.ensures.opened ∙ ap opened same; plan_is = c.in_ok-core.ensures.plan ∙ same; calls = c.requires.calls; callers = c.requires.callers } in
     let left = quiet_left source all c.args.places c.args.schedule.now c.in_ok-core.core c.scheduled_runs_are_over.ensures at c.run_quiet-counts.new.core c.run_quiet-counts.result c.run_quiet-counts.ensures in
     subst (λ (n : ℕ). IsRunOver (plan_from_start source all n) c.run_quiet-counts.new.core.state all) (sym left.places_are)
@@ -75,7 +75,7 @@ returns-clause-scheduled c =
     let sizes : c.deref.result.now ≡ map length all = search rules in
     let is = starts_plan c.codes_of_modules.ensures.plain source all c.args.places c.requires.checked c.requires.calls c.requires.some c.requires.few c.requires.places in
     let same : first_plan c.in_ok-code.code c.args.places c.deref.result.now ≡ plan_from_start source all c.args.places = rw (c.in_ok-code.ensures, sizes) refl in
-    let at : IsOpened source all c.args.places c.args.schedule.now c.in_ok-core.core
+    let at : IsOpened source (start_objects source) all c.args.places c.args.schedule.now c.in_ok-core.core
     = record { is = is; opened_is = c.in_ok-core.ensures.opened ∙ ap opened same; plan_is = c.in_ok-core.ensures.plan ∙ same; calls = c.requires.calls; callers = c.requires.callers } in
     let left = quiet_left source all c.args.places c.args.schedule.now c.in_ok-core.core c.scheduled_runs_are_over.ensures at c.run_quiet-counts.new.core c.run_quiet-counts.result c.run_quiet-counts.ensures in
     let made = c.run_left-run.ensures in

@@ -3,6 +3,7 @@ use Rattle.dl_ir.specs.declared.calls.Call.{Call}
 use Rattle.dl_history.specs.Histories.{joined}
 use Rattle.dl_machine.specs.Files.{RunsFiles}
 use Rattle.dl_command.specs.Scheduled.{plan_from}
+use Rattle.dl_command.specs.Texts.{heap_of}
 use Rattle.dl_command.proofs.OverLemmas.{entries_few, heap_is, is_run, refusals_few, tickets_apart, versions_apart}
 use Rattle.dl_command.proofs.StepLemmas.{is_scheduled, left_so, resting}
 use Rattle.dl_command.proofs.step.close_run.Goals as goal
@@ -27,7 +28,7 @@ merge-history-requires-clause-room c =
     let over = c.scheduled_runs_are_over.ensures in
     let closed = c.close-closed.result in
     let left : RunsFiles (plan_from input places) all closed = left_so input places c.requires.calls c.requires.callers over end c.args.core is closed c.close-closed.ensures.heap c.close-closed.ensures.entries c.close-closed.ensures.refusals c.close-closed.ensures.free in
-    let few = entries_few input.source all places closed left in
+    let few = entries_few input.source (heap_of input) all places closed left in
     omega (arith, few, c.requires.room.merging)
 
 pub merge-history-requires-clause-tickets : goal.merge-history-requires-clause-tickets
@@ -40,7 +41,7 @@ merge-history-requires-clause-tickets c =
     let over = c.scheduled_runs_are_over.ensures in
     let closed = c.close-closed.result in
     let left : RunsFiles (plan_from input places) all closed = left_so input places c.requires.calls c.requires.callers over end c.args.core is closed c.close-closed.ensures.heap c.close-closed.ensures.entries c.close-closed.ensures.refusals c.close-closed.ensures.free in
-    tickets_apart input.source all places closed left
+    tickets_apart input.source (heap_of input) all places closed left
 
 pub merge-history-requires-clause-versions : goal.merge-history-requires-clause-versions
 merge-history-requires-clause-versions c =
@@ -52,7 +53,7 @@ merge-history-requires-clause-versions c =
     let over = c.scheduled_runs_are_over.ensures in
     let closed = c.close-closed.result in
     let left : RunsFiles (plan_from input places) all closed = left_so input places c.requires.calls c.requires.callers over end c.args.core is closed c.close-closed.ensures.heap c.close-closed.ensures.entries c.close-closed.ensures.refusals c.close-closed.ensures.free in
-    rw c.as_slice.ensures.value (versions_apart input.source all places closed left)
+    rw c.as_slice.ensures.value (versions_apart input.source (heap_of input) all places closed left)
 
 pub gather-requires : goal.gather-requires
 gather-requires c =
@@ -64,7 +65,7 @@ gather-requires c =
     let over = c.scheduled_runs_are_over.ensures in
     let closed = c.close-closed.result in
     let left : RunsFiles (plan_from input places) all closed = left_so input places c.requires.calls c.requires.callers over end c.args.core is closed c.close-closed.ensures.heap c.close-closed.ensures.entries c.close-closed.ensures.refusals c.close-closed.ensures.free in
-    let few = refusals_few input.source all places closed left in
+    let few = refusals_few input.source (heap_of input) all places closed left in
     let those : c.as_slice-2.result.now ≡ closed.refusals = c.as_slice-2.ensures in
     rw those (omega (arith, few, c.requires.room.empty, c.requires.room.refusals))
 
@@ -91,7 +92,7 @@ returns-clause-heap c =
     let those : c.as_slice-2.result.now ≡ closed.refusals = c.as_slice-2.ensures in
     let refused : c.from_vec.result ≡ joined closed.refusals = c.from_vec.ensures ∙ c.gather.ensures ∙ ap (λ list. list ++ joined c.as_slice-2.result.now) c.requires.room.none ∙ ap joined those in
     let moves = rw c.as_slice.ensures.value at c.merge-history.ensures.moves in
-    heap_is input.source all places closed left c.requires.calls c.merge-history.result c.from_vec.result c.merge-history.ensures.entries moves refused
+    heap_is input.source (heap_of input) all places closed left c.requires.calls c.merge-history.result c.from_vec.result c.merge-history.ensures.entries moves refused
 
 pub returns-clause-refusals : goal.returns-clause-refusals
 returns-clause-refusals c =
@@ -121,4 +122,4 @@ returns-clause-covers c =
     let those : c.as_slice-2.result.now ≡ closed.refusals = c.as_slice-2.ensures in
     let refused : c.from_vec.result ≡ joined closed.refusals = c.from_vec.ensures ∙ c.gather.ensures ∙ ap (λ list. list ++ joined c.as_slice-2.result.now) c.requires.room.none ∙ ap joined those in
     let moves = rw c.as_slice.ensures.value at c.merge-history.ensures.moves in
-    (is_run input.source all places closed left c.requires.calls c.merge-history.result c.from_vec.result c.merge-history.ensures.entries moves refused).covers
+    (is_run input.source (heap_of input) all places closed left c.requires.calls c.merge-history.result c.from_vec.result c.merge-history.ensures.entries moves refused).covers

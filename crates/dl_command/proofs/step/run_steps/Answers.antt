@@ -1,6 +1,6 @@
 use Rattle.std.proofs.Common.{◌≡◌, ◌++◌, refl, rules}
-use Rattle.dl_ir.specs.Heap.{start_objects}
 use Rattle.dl_command.specs.Promise.{Finishes, report_of}
+use Rattle.dl_command.specs.Texts.{heap_of}
 use Rattle.dl_command.proofs.StepLemmas.{at_end, may_run, second_err}
 use Rattle.dl_command.proofs.step.run_steps.Goals as goal
 
@@ -29,6 +29,6 @@ returns g c = λ places is.
     let run = c.close_run-run.result in
     let passes = rw c.new-out.ensures at has.ok in
     let breaks = rw c.new-out.ensures at (second_err _ _ c.run_schedule-traced.result has.err) in
-    Finishes.wrote (has.end.text ++ report_of input.source (start_objects input.source) input.all.items run.history.entries run.refusals)
+    Finishes.wrote (has.end.text ++ report_of input.source (heap_of input) input.all.items run.history.entries run.refusals)
     (record { end = has.end; scheduled = scheduled; is_text = refl })
     (c.write_behind-status.ensures (g.K.Sink.taken c.args.sink.now) has.end.text passes breaks)

@@ -1,4 +1,4 @@
-use Rattle.std.proofs.Common.{◌≡◌, ◌∙◌, ◌≤◌, ℕ, List, ap, arith, length, subst, sym}
+use Rattle.std.proofs.Common.{◌≡◌, ◌∙◌, ℕ, List, ap, arith, length, subst, sym}
 use Rattle.std.specs.Prelude.{All}
 use Rattle.dl_ir.specs.declared.calls.Call.{Call}
 use Rattle.dl_schedule.specs.Rules.{IsGiveOf}

@@ -1,30 +1,23 @@
-use Rattle.std.proofs.Common.{◌≡◌, ◌∙◌, refl, sym, ap, subst, arith}
+use Rattle.std.proofs.Common.{◌≡◌, ◌∙◌, sym, ap, subst, arith}
 use Rattle.std.proofs.lemmas.List.{append-nil}
 use Rattle.dl_ir.specs.declared.answers.Entry.{Entry as OneEntry}
 use Rattle.dl_ir.specs.Heap.{View}
 use Rattle.dl_shape.specs.Rising.{in_rising, AreApart}
 use Rattle.dl_shape.proofs.Legal.{legal_rises}
 use Rattle.dl_shape.proofs.Rising.{rising_is, rises_apart}
-use Rattle.dl_shape.proofs.Starting.{greatest_ticket-start, hidden_count-start, start_is_startable}
 use Rattle.dl_history.specs.Histories.{joined, AreByCaller}
 use Rattle.dl_closed.proofs.Histories.{never_seals}
 use Rattle.dl_command.proofs.RunLemmas.{one_element, one_by_caller, one_in_order}
-use Rattle.dl_command.proofs.run.run_input.Goals as goal
-
-pub run_calls-requires-clause-startable : goal.run_calls-requires-clause-startable
-run_calls-requires-clause-startable c = rw c.in_ok-heap.ensures.start (start_is_startable c.args.input.now.source c.requires.checked.start)
+use Rattle.dl_command.proofs.run.run_from.Goals as goal
 
 pub run_calls-requires-clause-next : goal.run_calls-requires-clause-next
-run_calls-requires-clause-next c = rw (c.in_ok-heap.ensures.start, greatest_ticket-start) refl
-
-pub run_calls-requires-clause-hidden : goal.run_calls-requires-clause-hidden
-run_calls-requires-clause-hidden c = rw (c.in_ok-heap.ensures.start, hidden_count-start) (omega arith)
+run_calls-requires-clause-next c = omega (arith, c.greatest_ticket-first.ensures)
 
 pub overflow_cast-len : goal.overflow_cast-len
 overflow_cast-len c =
-    let one = one_element c.args.input.now.all.items c.index.result.now c.requires.one c.index.ensures in
+    let one = one_element c.args.files.now c.index-files-0.result c.requires.one c.index-files-0.is in
     let calls = rw one at c.requires.calls in
-    let few = (calls 0 c.index.result.now (omega arith)).short in
+    let few = (calls 0 c.index-files-0.result (omega arith)).short in
     omega (arith, c.len.ensures, few, c.in_ok-served.ensures.short)
 
 pub merge-history-requires-clause-tickets : goal.merge-history-requires-clause-tickets
@@ -35,15 +28,15 @@ merge-history-requires-clause-tickets c =
 
 pub merge-history-requires-clause-versions : goal.merge-history-requires-clause-versions
 merge-history-requires-clause-versions c =
-    let one = one_element c.args.input.now.all.items c.index.result.now c.requires.one c.index.ensures in
+    let one = one_element c.args.files.now c.index-files-0.result c.requires.one c.index-files-0.is in
     let list : joined c.in_ok-closed.closed.entries ≡ c.in_ok-served.served.entries = ap joined c.in_ok-closed.ensures.entries ∙ append-nil _ in
-    rw (c.as_slice-2.ensures.value, one, list) c.in_ok-served.ensures.apart
+    rw (one, list) c.in_ok-served.ensures.apart
 
 pub returns-clause-run : goal.returns-clause-run
 returns-clause-run c =
-    let one = one_element c.args.input.now.all.items c.index.result.now c.requires.one c.index.ensures in
-    let legal = rw c.in_ok-heap.ensures.start at c.in_ok-served.ensures.legal in
-    let lawful = rw c.in_ok-heap.ensures.start at c.in_ok-served.ensures.pool in
+    let one = one_element c.args.files.now c.index-files-0.result c.requires.one c.index-files-0.is in
+    let legal = c.in_ok-served.ensures.legal in
+    let lawful = c.in_ok-served.ensures.pool in
     let calls = rw one at c.requires.calls in
     let list : joined c.in_ok-closed.closed.entries ≡ c.in_ok-served.served.entries = ap joined c.in_ok-closed.ensures.entries ∙ append-nil _ in
     let same : c.merge-history.result.entries ≡ c.in_ok-served.served.entries
@@ -51,7 +44,7 @@ returns-clause-run c =
     ∙ rising_is (λ (entry : OneEntry). entry.ticket) _ (legal_rises c.in_ok-served.ensures.legal.goes) in
     let those : c.in_ok-refusals.refusals ≡ c.in_ok-served.served.refusals = c.in_ok-refusals.ensures ∙ c.as_slice.ensures in
     let of_one = c.in_ok-served.ensures.refusals in
-    let moves = rw (c.as_slice-2.ensures.value, one, same) at c.merge-history.ensures.moves in
+    let moves = rw (one, same) at c.merge-history.ensures.moves in
     rw (one, same, those) record {
       covers = c.in_ok-served.ensures.covers;
       in_order = one_in_order _ of_one.caller of_one.in_order;
@@ -64,8 +57,8 @@ returns-clause-run c =
 
 pub returns-clause-heap : goal.returns-clause-heap
 returns-clause-heap c =
-    let one = one_element c.args.input.now.all.items c.index.result.now c.requires.one c.index.ensures in
-    let replay = rw c.in_ok-heap.ensures.start at c.in_ok-served.ensures.replay in
+    let one = one_element c.args.files.now c.index-files-0.result c.requires.one c.index-files-0.is in
+    let replay = c.in_ok-served.ensures.replay in
     let list : joined c.in_ok-closed.closed.entries ≡ c.in_ok-served.served.entries = ap joined c.in_ok-closed.ensures.entries ∙ append-nil _ in
     let same : c.merge-history.result.entries ≡ c.in_ok-served.served.entries
     = c.merge-history.ensures.entries ∙ ap (in_rising (λ (entry : OneEntry). entry.ticket)) list
