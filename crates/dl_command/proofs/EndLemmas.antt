@@ -5,6 +5,8 @@ use Rattle.dl_io.specs.Taken.{Taken, Took}
 use Rattle.dl_history.specs.Histories.{Seen}
 use Rattle.dl_ir.specs.declared.answers.Refusal.{Refusal}
 use Rattle.dl_ir.specs.declared.modules.Module.{Module}
+use Rattle.dl_heapfile.specs.declared.fault.HeapFault.{HeapFault}
+use Rattle.dl_heapfile.specs.declared.fault.HeapFault.TheVariants as heaps
 use Rattle.dl_syntax.specs.declared.calls.CallsFault.{CallsFault}
 use Rattle.dl_syntax.specs.declared.calls.CallsFault.TheVariants as calls
 use Rattle.dl_schedule.specs.declared.give.ScheduleFault.{ScheduleFault}
@@ -17,7 +19,7 @@ use Rattle.dl_command.specs.declared.status.Status.TheVariants as statuses
 use Rattle.dl_command.specs.Causes.{NoModule, NoFile, Refuses, Cut}
 use Rattle.dl_command.specs.Promise.{Ran, Finishes, Ends, Prints, nothing_done}
 use Rattle.dl_command.specs.Reading.{IsUnread, ReadCause, IsWithin}
-use Rattle.dl_command.specs.Texts.{IsFaultOf, Spells, calls_status, schedule_status}
+use Rattle.dl_command.specs.Texts.{IsFaultOf, Spells, calls_status, heap_status, schedule_status}
 use Rattle.dl_command.specs.Wanted.{Wanted}
 use Rattle.dl_command.specs.Words.{IsGood, Text, Task, limit_of, status_of}
 use Rattle.dl_command.specs.declared.words.WordsFault.{WordsFault}
@@ -33,6 +35,7 @@ IsRefusal (statuses.TooLong file) = Unit {0}
 IsRefusal (statuses.ModuleFault line why) = Unit {0}
 IsRefusal (statuses.OpsFault file line why) = Unit {0}
 IsRefusal statuses.Memory = Unit {0}
+IsRefusal (statuses.HeapFault line why) = Unit {0}
 
 read_refuses : (status : Status) (file : ℕ) (path : Text) (old new : Source) → ReadCause status file path old new → IsRefusal status
 read_refuses statuses.Done f path old new cause = cause
@@ -43,6 +46,7 @@ read_refuses (statuses.TooLong file) f path old new cause = tt
 read_refuses (statuses.ModuleFault line why) f path old new cause = tt
 read_refuses (statuses.OpsFault file line why) f path old new cause = tt
 read_refuses statuses.Memory f path old new cause = tt
+read_refuses (statuses.HeapFault line why) f path old new cause = tt
 
 module_refuses : {path : Text} {old new : Source} {status : Status} → NoModule path old new status → IsRefusal status
 module_refuses {path = path} {old = old} {new = new} {status = status} (NoModule.unread cause) = read_refuses status 0 path old new cause
@@ -67,7 +71,17 @@ schedule_told file (schedules.NoCaller line) = tt
 schedule_told file (schedules.TooMany line) = tt
 schedule_told file schedules.Memory = tt
 
+heap_told : (fault : HeapFault) → IsRefusal (heap_status fault)
+heap_told (heaps.NoHeap line) = tt
+heap_told (heaps.BadLine line) = tt
+heap_told (heaps.Count line) = tt
+heap_told (heaps.Dangling line) = tt
+heap_told (heaps.Shape line) = tt
+heap_told (heaps.NoPlaces line) = tt
+heap_told heaps.Memory = tt
+
 fault_refuses : (source : Module) (file : ℕ) (form : Form) (text : Text) (status : Status) → IsFaultOf source file form text status → IsRefusal status
+fault_refuses source file (forms.Heap places) text status told = subst IsRefusal (sym told.is) (heap_told told.fault)
 fault_refuses source file (forms.Schedule callers) text status told = subst IsRefusal (sym told.is) (schedule_told file told.fault)
 fault_refuses source file forms.Operations text status told = subst IsRefusal (sym told.is) (calls_told file told.fault)
 
@@ -91,6 +105,7 @@ printed (statuses.TooLong file) text old new prints no_done no_fault = absurd pr
 printed (statuses.ModuleFault line why) text old new prints no_done no_fault = absurd prints
 printed (statuses.OpsFault file line why) text old new prints no_done no_fault = absurd prints
 printed statuses.Memory text old new prints no_done no_fault = absurd prints
+printed (statuses.HeapFault line why) text old new prints no_done no_fault = absurd prints
 
 -- where reading stopped and more than the limit was taken, the file was too long
 read_long : (status : Status) (f : ℕ) (path : Text) (old new : Source) (file : ℕ) → ReadCause status f path old new →
@@ -102,6 +117,7 @@ read_long (statuses.ReadFault f) g path old new file cause is more = let short =
 read_long (statuses.TooLong f) g path old new file cause is more = let e = cause.1.attached in cc
 read_long (statuses.ModuleFault line why) g path old new file cause is more = absurd cause
 read_long (statuses.OpsFault f line why) g path old new file cause is more = absurd cause
+read_long (statuses.HeapFault line why) g path old new file cause is more = absurd cause
 read_long statuses.Memory g path old new file cause is more = let short = cause file is in absurd (omega (arith, short, more))
 
 within_long : {P : Type 0} (new : Source) (file : ℕ) → IsWithin new → new.attached ≡ Some file → limit_of file < new.given → P
@@ -135,6 +151,7 @@ read_most (statuses.TooLong f) g path old new file cause is =
     subst (λ n. new.given ≤ limit_of n + 1) (some_same g file (sym cause.1.attached ∙ is)) cause.1.at_most
 read_most (statuses.ModuleFault line why) g path old new file cause is = absurd cause
 read_most (statuses.OpsFault f line why) g path old new file cause is = absurd cause
+read_most (statuses.HeapFault line why) g path old new file cause is = absurd cause
 read_most statuses.Memory g path old new file cause is = within_most new file cause is
 
 refused_most : {task : Task} {old new : Source} {status : Status} (file : ℕ) → Refuses task old new status → new.attached ≡ Some file →

@@ -9,6 +9,11 @@ use Rattle.dl_types.specs.Rules.{IsTree}
 use Rattle.dl_types.proofs.TreeLaws.{one_outcome}
 use Rattle.dl_types.specs.declared.fault.TypeFault.{TypeFault}
 use Rattle.dl_types.specs.declared.fault.TypeFault.TheVariants as types
+use Rattle.dl_heapfile.specs.Faults.{Reads}
+use Rattle.dl_heapfile.specs.Names.{HasNames}
+use Rattle.dl_heapfile.specs.declared.fault.HeapFault.TheVariants as heap_faults
+use Rattle.dl_heapfile.proofs.Once.{is_read_once}
+use Rattle.dl_naming.specs.Naming.{SpelledHasNames}
 use Rattle.dl_syntax.specs.Line.{lines_of}
 use Rattle.dl_syntax.specs.Rules.{IsCallsFault}
 use Rattle.dl_syntax.proofs.RuleLaws.{one_calls_fault, no_calls_fault}
@@ -27,7 +32,7 @@ use Rattle.dl_command.specs.declared.status.Status.TheVariants as statuses
 use Rattle.dl_command.specs.declared.status.ModuleWhy.{ModuleWhy}
 use Rattle.dl_command.specs.declared.status.ModuleWhy.TheVariants as modules
 use Rattle.dl_command.specs.Loading.{syntax_status, type_status}
-use Rattle.dl_command.specs.Texts.{IsModuleText, HasTypeFault, IsModuleFault, IsFaultOf, IsToldBy, Says, calls_status, schedule_status}
+use Rattle.dl_command.specs.Texts.{IsModuleText, HasTypeFault, IsModuleFault, IsFaultOf, IsToldBy, Says, calls_status, heap_status, schedule_status}
 use Rattle.dl_command.specs.Words.{Text}
 
 -- a fault of a module text is one of its tokens or one of its tree
@@ -101,17 +106,30 @@ schedule_outcome callers text a b says_a says_b = sym (say_lines callers a 1 [] 
 one_schedule_fault : (callers : ℕ) (text : Text) (a b : ScheduleFault) → IsScheduleFault callers text a → IsScheduleFault callers text b → a ≡ b
 one_schedule_fault callers text a b is_a is_b = one_err (schedule_outcome callers text (Err a) (Err b) is_a is_b)
 
+-- a module that a text spells has names by which a heap file can tell its objects
+pub text_named : (text : Text) (source : Module) → SpelledHasNames → IsModuleText text source → HasNames source
+text_named text source named is = named text is.tree source is.spelled is.typed
+
 -- a text has at most one fault of a form
-pub one_fault : (source : Module) (file : ℕ) (form : Form) (text : Text) (a b : Status) → IsFaultOf source file form text a → IsFaultOf source file form text b → a ≡ b
-one_fault source file (forms.Schedule callers) text a b is_a is_b =
+pub one_fault : (source : Module) (file : ℕ) (form : Form) (text : Text) (a b : Status) → HasNames source → IsFaultOf source file form text a → IsFaultOf source file form text b → a ≡ b
+one_fault source file (forms.Heap places) text a b named is_a is_b =
+    one_told (λ fault. Reads source places text (Err fault)) heap_faults.Memory heap_status a b
+    (λ f g is_f is_g. one_err (is_read_once source places text (Err f) (Err g) named is_f is_g)) is_a is_b
+one_fault source file (forms.Schedule callers) text a b named is_a is_b =
     one_told (IsScheduleFault callers text) schedules.Memory (schedule_status file) a b (one_schedule_fault callers text) is_a is_b
-one_fault source file forms.Operations text a b is_a is_b =
+one_fault source file forms.Operations text a b named is_a is_b =
     one_told (IsCallsFault source text) faults.Memory (calls_status file) a b (one_calls_fault source text) is_a is_b
 
 -- and has none where it says something
-pub says_or_fault : {P : Type 0} (source : Module) (file : ℕ) (form : Form) (text : Text) (content : Content) (status : Status) → Says source form text content →
+pub says_or_fault : {P : Type 0} (source : Module) (file : ℕ) (form : Form) (text : Text) (content : Content) (status : Status) → HasNames source → Says source form text content →
     IsFaultOf source file form text status → P
-says_or_fault source file (forms.Schedule callers) text (contents.Schedule gives) status says fault = ok_or_err (schedule_outcome callers text (Ok gives) (Err fault.fault) says fault.at_fault)
-says_or_fault source file (forms.Schedule callers) text (contents.Calls calls) status says fault = absurd says
-says_or_fault source file forms.Operations text (contents.Schedule gives) status says fault = absurd says
-says_or_fault source file forms.Operations text (contents.Calls calls) status says fault = absurd (no_calls_fault source text calls fault.fault says fault.at_fault)
+says_or_fault source file (forms.Heap places) text (contents.Heap heap) status named says fault =
+    ok_or_err (is_read_once source places text (Ok heap.objects) (Err fault.fault) named says fault.at_fault)
+says_or_fault source file (forms.Heap places) text (contents.Schedule gives) status named says fault = absurd says
+says_or_fault source file (forms.Heap places) text (contents.Calls calls) status named says fault = absurd says
+says_or_fault source file (forms.Schedule callers) text (contents.Heap heap) status named says fault = absurd says
+says_or_fault source file (forms.Schedule callers) text (contents.Schedule gives) status named says fault = ok_or_err (schedule_outcome callers text (Ok gives) (Err fault.fault) says fault.at_fault)
+says_or_fault source file (forms.Schedule callers) text (contents.Calls calls) status named says fault = absurd says
+says_or_fault source file forms.Operations text (contents.Heap heap) status named says fault = absurd says
+says_or_fault source file forms.Operations text (contents.Schedule gives) status named says fault = absurd says
+says_or_fault source file forms.Operations text (contents.Calls calls) status named says fault = absurd (no_calls_fault source text calls fault.fault says fault.at_fault)

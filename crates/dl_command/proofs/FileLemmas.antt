@@ -1,12 +1,18 @@
 -- Files that are read one after another.
 use Rattle.std.proofs.Common.{◌≡◌, ℕ, ◌+◌, ◌<◌, ◌≤◌, List, [], ◌∷◌, ◌++◌, Option, Some, Ok, take, get_or, map, length, refl, sym, ◌∙◌, ap, subst, arith, length-append}
-use Rattle.std.specs.Prelude.{All, slice_get, IfSome, Contains}
+use Rattle.std.specs.Prelude.{All, slice_get, IfSome, None, Contains, option_map}
 use Rattle.std.proofs.Math.Nat.{le_trans}
 use Rattle.std.proofs.lemmas.List.Elements.{All-nil, All-push}
 use Rattle.dl_io.specs.Source.{Source, SameFiles, Tells}
+use Rattle.dl_ir.specs.declared.calls.Call.{Call}
 use Rattle.dl_ir.specs.declared.modules.Module.{Module}
 use Rattle.dl_grammar.specs.declared.tree.Tree.{Tree}
 use Rattle.dl_ir.specs.CallForms.{AreCallsOf}
+use Rattle.dl_ir.specs.Checked.{IsChecked}
+use Rattle.dl_ir.specs.Heap.{Objects, View, start_objects}
+use Rattle.dl_shape.proofs.Starting.{hidden_count-start, start_is_startable}
+use Rattle.dl_heapfile.specs.Faults.{Reads}
+use Rattle.dl_heapfile.proofs.Spelled.{what_is_read_is_spelt}
 use Rattle.dl_schedule.specs.declared.give.Give.{Give}
 use Rattle.dl_schedule.specs.Rules.{IsGiveOf}
 use Rattle.dl_schedule.proofs.RuleLaws.{spelled_in_range}
@@ -14,13 +20,15 @@ use Rattle.dl_command.specs.declared.loading.Content.{Content}
 use Rattle.dl_command.specs.declared.loading.Content.TheVariants as contents
 use Rattle.dl_command.specs.declared.status.Status.{Status}
 use Rattle.dl_command.specs.declared.status.Status.TheVariants as statuses
+use Rattle.dl_command.specs.declared.loading.Input.{Input}
 use Rattle.dl_command.specs.declared.wanted.WantedFile.{WantedFile as Held}
+use Rattle.dl_command.specs.declared.words.Verb.{Verb}
 use Rattle.dl_command.specs.declared.words.Verb.TheVariants as verbs
 use Rattle.dl_command.specs.Causes.{NoFile, Refuses}
 use Rattle.dl_command.specs.Loading.{IsFine, StopsAt}
 use Rattle.dl_command.specs.Reading.{AfterReading, IsWithin, ReadCause, Fails, IsTooLong}
-use Rattle.dl_command.specs.Texts.{IsFile, AreFiles, IsModuleFile, Behind, nothing_behind, with_content}
-use Rattle.dl_command.specs.Wanted.{Wanted, operations_from, wanted, wanted_by, wanted_held}
+use Rattle.dl_command.specs.Texts.{CanStart, IsFile, AreFiles, IsModuleFile, Behind, behind_of, first_heap, heap_of, nothing_behind, with_content}
+use Rattle.dl_command.specs.Wanted.{Wanted, heap_file, operations_from, wanted, wanted_by, wanted_held}
 use Rattle.dl_command.specs.Words.{Text, Task}
 use Rattle.dl_text.proofs.WritingLemmas.{rose_later}
 use Rattle.dl_command.proofs.WantedLemmas.{seen_to}
@@ -72,6 +80,7 @@ read_before start now new file path statuses.Usage after cause = cause
 read_before start now new file path (statuses.ModuleFault line why) after cause = cause
 read_before start now new file path (statuses.OpsFault f line why) after cause = cause
 read_before start now new file path statuses.WriteFault after cause = cause
+read_before start now new file path (statuses.HeapFault line why) after cause = cause
 
 -- one more file
 pub files_push : (source : Module) (files : Source) (wanted : List Wanted) (before after : Behind) (file : Wanted) (content : Content) →
@@ -102,23 +111,26 @@ refuses_behind after source_file (StopsAt.no_memory is within) = Refuses.no_memo
 
 -- calls are kept where one more content is fine
 pub calls_with : (source : Module) (behind : Behind) (content : Content) → All (AreCallsOf source) behind.all → IsFine source content → All (AreCallsOf source) (with_content behind content).all
+calls_with source behind (contents.Heap heap) calls fine = calls
 calls_with source behind (contents.Schedule gives) calls fine = calls
 calls_with source behind (contents.Calls more) calls fine = All-push (AreCallsOf source) behind.all more calls fine
 
--- a list of operation files says the calls of so many files, and no schedule
+-- a list of operation files says the calls of so many files, no schedule, and no heap
 pub record AreOperations (before after : Behind) (paths : List Text) : Type 0 where
   pub count : length after.all ≡ length before.all + length paths
   pub gives : after.gives ≡ before.gives
+  pub heap : after.heap ≡ before.heap
 
 pub operations_say : (source : Module) (files : Source) (number : ℕ) (paths : List Text) (before after : Behind) → AreFiles source files (operations_from number paths) before after → AreOperations before after paths
 operations_say source files number [] before after are =
-    record { count = (let e = ap (λ (behind : Behind). length behind.all) are in omega (arith, e)); gives = ap (λ (behind : Behind). behind.gives) are }
+    record { count = (let e = ap (λ (behind : Behind). length behind.all) are in omega (arith, e)); gives = ap (λ (behind : Behind). behind.gives) are; heap = ap (λ (behind : Behind). behind.heap) are }
+operations_say source files number (path ∷ paths) before after (contents.Heap heap, is, are) = absurd is.says
 operations_say source files number (path ∷ paths) before after (contents.Schedule gives, is, are) = absurd is.says
 operations_say source files number (path ∷ paths) before after (contents.Calls calls, is, are) =
     let rest = operations_say source files (number + 1) paths (with_content before (contents.Calls calls)) after are in
     let longer : length (before.all ++ calls ∷ []) ≡ length before.all + 1 = length-append before.all (calls ∷ []) in
     let count = rest.count in
-    record { count = omega (arith, count, longer); gives = rest.gives }
+    record { count = omega (arith, count, longer); gives = rest.gives; heap = rest.heap }
 
 -- there are calls for each operation file, and a schedule gives steps to their callers alone
 pub record AreBehind (count : ℕ) (behind : Behind) : Type 0 where
@@ -128,24 +140,81 @@ pub record AreBehind (count : ℕ) (behind : Behind) : Type 0 where
 no_gives : (count : ℕ) → All (IsGiveOf count) []
 no_gives count = All-nil (IsGiveOf count)
 
-pub operations_behind : (source : Module) (files : Source) (paths : List Text) (after : Behind) → AreFiles source files (operations_from 1 paths) nothing_behind after → AreBehind (length paths) after
-operations_behind source files paths after are =
-    let is = operations_say source files 1 paths nothing_behind after are in
-    let count = is.count in
-    record { all = omega (arith, count); gives = subst (λ (gives : List Give). All (IsGiveOf (length paths)) gives) (sym is.gives) (no_gives (length paths)) }
+-- what a heap file says, where there is one
+abbrev SaysHeap : Module → ℕ → Option Objects → Type 0
+SaysHeap source places None = Unit {0}
+SaysHeap source places (Some heap) = (text : Text) × Reads source places text (Ok heap)
 
-pub step_behind : (source : Module) (files : Source) (path : Text) (paths : List Text) (after : Behind) → AreFiles source files (wanted_by verbs.Step (path ∷ paths)) nothing_behind after → AreBehind (length paths) after
-step_behind source files path paths after (contents.Calls calls, is, are) = absurd is.says
-step_behind source files path paths after (contents.Schedule gives, is, are) =
-    let rest = operations_say source files 2 paths (with_content nothing_behind (contents.Schedule gives)) after are in
+-- the files behind the heap file lead from what that says
+record BehindHeap (source : Module) (files : Source) (places : ℕ) (rest : List Wanted) (after : Behind) : Type 0 where
+  before : Behind
+  no_gives : before.gives ≡ []
+  no_calls : before.all ≡ []
+  says : SaysHeap source places before.heap
+  are : AreFiles source files rest before after
+
+behind_heap : (source : Module) (files : Source) (places : ℕ) (heap : Option Text) (rest : List Wanted) (after : Behind) → AreFiles source files (heap_file places heap ++ rest) nothing_behind after
+    → BehindHeap source files places rest after
+behind_heap source files places None rest after are = record { before = nothing_behind; no_gives = refl; no_calls = refl; says = tt; are = are }
+behind_heap source files places (Some path) rest after (contents.Heap heap, is, are) =
+    record { before = with_content nothing_behind (contents.Heap heap); no_gives = refl; no_calls = refl; says = (is.text, is.says); are = are }
+behind_heap source files places (Some path) rest after (contents.Schedule gives, is, are) = absurd is.says
+behind_heap source files places (Some path) rest after (contents.Calls calls, is, are) = absurd is.says
+
+pub operations_behind : (source : Module) (files : Source) (places : ℕ) (heap : Option Text) (paths : List Text) (after : Behind)
+    → AreFiles source files (heap_file places heap ++ operations_from 1 paths) nothing_behind after → AreBehind (length paths) after
+operations_behind source files places heap paths after are =
+    let first = behind_heap source files places heap (operations_from 1 paths) after are in
+    let is = operations_say source files 1 paths first.before after first.are in
+    let count = is.count in
+    let none : length first.before.all ≡ 0 = ap (λ (all : List (List Call)). length all) first.no_calls in
+    record { all = omega (arith, count, none); gives = subst (λ (gives : List Give). All (IsGiveOf (length paths)) gives) (sym (is.gives ∙ first.no_gives)) (no_gives (length paths)) }
+
+step_behind : (source : Module) (files : Source) (path : Text) (paths : List Text) (before after : Behind) → before.all ≡ []
+    → AreFiles source files (wanted_by verbs.Step (path ∷ paths)) before after → AreBehind (length paths) after
+step_behind source files path paths before after no_calls (contents.Heap heap, is, are) = absurd is.says
+step_behind source files path paths before after no_calls (contents.Calls calls, is, are) = absurd is.says
+step_behind source files path paths before after no_calls (contents.Schedule gives, is, are) =
+    let rest = operations_say source files 2 paths (with_content before (contents.Schedule gives)) after are in
     let range = spelled_in_range (length paths) is.text (Ok gives) is.says in
     let count = rest.count in
-    record { all = omega (arith, count); gives = subst (λ (gs : List Give). All (IsGiveOf (length paths)) gs) (sym rest.gives) range.each }
+    let none : length before.all ≡ 0 = ap (λ (all : List (List Call)). length all) no_calls in
+    record { all = omega (arith, count, none); gives = subst (λ (gs : List Give). All (IsGiveOf (length paths)) gs) (sym rest.gives) range.each }
 
-pub step_counts : (source : Module) (files : Source) (rest : List Text) (behind : Behind) → 2 ≤ length rest → AreFiles source files (wanted_by verbs.Step rest) nothing_behind behind
-    → (count : ℕ) × (count + 1 ≡ length rest) × AreBehind count behind
-step_counts source files [] behind more are = absurd (omega (arith, more))
-step_counts source files (path ∷ paths) behind more are = (length paths, omega arith, step_behind source files path paths behind are)
+pub step_counts : (source : Module) (files : Source) (places : ℕ) (heap : Option Text) (rest : List Text) (behind : Behind) → 2 ≤ length rest
+    → AreFiles source files (heap_file places heap ++ wanted_by verbs.Step rest) nothing_behind behind → (count : ℕ) × (count + 1 ≡ length rest) × AreBehind count behind
+step_counts source files places heap [] behind more are = absurd (omega (arith, more))
+step_counts source files places heap (path ∷ paths) behind more are =
+    let first = behind_heap source files places heap (wanted_by verbs.Step (path ∷ paths)) behind are in
+    (length paths, omega arith, step_behind source files path paths first.before behind first.no_calls first.are)
+
+-- no file behind the heap file says a heap
+keeps_heap : (source : Module) (files : Source) (verb : Verb) (rest : List Text) (before after : Behind) → AreFiles source files (wanted_by verb rest) before after → after.heap ≡ before.heap
+keeps_heap source files verbs.Serial rest before after are = (operations_say source files 1 rest before after are).heap
+keeps_heap source files verbs.Run rest before after are = (operations_say source files 1 rest before after are).heap
+keeps_heap source files verbs.Step [] before after are = ap (λ (behind : Behind). behind.heap) are
+keeps_heap source files verbs.Step (path ∷ paths) before after (contents.Heap heap, is, are) = absurd is.says
+keeps_heap source files verbs.Step (path ∷ paths) before after (contents.Calls calls, is, are) = absurd is.says
+keeps_heap source files verbs.Step (path ∷ paths) before after (contents.Schedule gives, is, are) =
+    (operations_say source files 2 paths (with_content before (contents.Schedule gives)) after are).heap
+keeps_heap source files verbs.Show rest before after are = (operations_say source files 1 rest before after are).heap
+keeps_heap source files verbs.Work rest before after are = ap (λ (behind : Behind). behind.heap) are
+
+-- a run may start from the heap that was given, and from the start heap where none was
+may_start : (source : Module) (places : ℕ) (given : Option View) → IsChecked source → SaysHeap source places (option_map (λ (heap : View). heap.objects) given)
+    → CanStart source places (first_heap source given)
+may_start source places None checked says = record { startable = start_is_startable source checked.start; fits = omega (arith, hidden_count-start source) }
+may_start source places (Some heap) checked says =
+    let read = what_is_read_is_spelt source places says.0 heap.objects checked.start says.1 in
+    record { startable = read.startable; fits = read.fits }
+
+-- what the files of a command say is a heap from which a run may start
+pub can_start : (files : Source) (task : Task) (input : Input) → IsChecked input.source → AreFiles input.source files (wanted task) nothing_behind (behind_of input)
+    → CanStart input.source task.places (heap_of input)
+can_start files task input checked are =
+    let first = behind_heap input.source files task.places task.heap (wanted_by task.verb task.rest) (behind_of input) are in
+    let kept = keeps_heap input.source files task.verb task.rest first.before (behind_of input) first.are in
+    may_start input.source task.places input.heap checked (subst (SaysHeap input.source task.places) (sym kept) first.says)
 
 -- one more file was read
 pub loaded_more : {source : Module} {start now new : Source} (files : List Held) (i : ℕ) (d : Held) (behind : Behind) (content : Content) → i < length files

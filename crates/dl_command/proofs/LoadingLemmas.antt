@@ -2,6 +2,9 @@
 use Rattle.std.proofs.Common.{◌≢◌, ◌≤◌, ℕ, List, length, Result, Ok, Err, IfErr, IfOk, refl}
 use Rattle.dl_io.specs.Source.{Source, Tells}
 use Rattle.dl_ir.specs.declared.modules.Module.{Module}
+use Rattle.dl_heapfile.specs.Faults.{Reads}
+use Rattle.dl_heapfile.specs.declared.fault.HeapFault.{HeapFault}
+use Rattle.dl_heapfile.specs.declared.fault.HeapFault.TheVariants as heap_faults
 use Rattle.dl_grammar.specs.Texts.{Spells, IsSyntaxFault}
 use Rattle.dl_grammar.specs.declared.tree.Tree.{Tree}
 use Rattle.dl_grammar.specs.declared.fault.SyntaxFault.{SyntaxFault}
@@ -22,7 +25,7 @@ use Rattle.dl_command.specs.declared.wanted.Form.TheVariants as forms
 use Rattle.dl_command.specs.Causes.{NoModule, NoFile}
 use Rattle.dl_command.specs.Loading.{syntax_status, type_status, ParseCause, TextCause}
 use Rattle.dl_command.specs.Reading.{IsWithin}
-use Rattle.dl_command.specs.Texts.{IsFile, Says, calls_status, schedule_status}
+use Rattle.dl_command.specs.Texts.{IsFile, Says, calls_status, heap_status, schedule_status}
 use Rattle.dl_command.specs.Wanted.{Wanted}
 use Rattle.dl_command.specs.Words.{limit_of}
 
@@ -46,6 +49,16 @@ schedule_cause (schedules.BadStep line) found = TextCause.at_fault (record { fau
 schedule_cause (schedules.NoCaller line) found = TextCause.at_fault (record { fault = schedules.NoCaller line; at_fault = found (λ e. cc); other = λ e. cc; is = refl })
 schedule_cause (schedules.TooMany line) found = TextCause.at_fault (record { fault = schedules.TooMany line; at_fault = found (λ e. cc); other = λ e. cc; is = refl })
 schedule_cause schedules.Memory found = TextCause.no_memory refl
+
+pub heap_cause : {source : Module} {text : List ℕ} {file places : ℕ} (fault : HeapFault) → (fault ≢ heap_faults.Memory → Reads source places text (Err fault))
+    → TextCause source file (forms.Heap places) text (heap_status fault)
+heap_cause (heap_faults.NoHeap line) found = TextCause.at_fault (record { fault = heap_faults.NoHeap line; at_fault = found (λ e. cc); other = λ e. cc; is = refl })
+heap_cause (heap_faults.BadLine line) found = TextCause.at_fault (record { fault = heap_faults.BadLine line; at_fault = found (λ e. cc); other = λ e. cc; is = refl })
+heap_cause (heap_faults.Count line) found = TextCause.at_fault (record { fault = heap_faults.Count line; at_fault = found (λ e. cc); other = λ e. cc; is = refl })
+heap_cause (heap_faults.Dangling line) found = TextCause.at_fault (record { fault = heap_faults.Dangling line; at_fault = found (λ e. cc); other = λ e. cc; is = refl })
+heap_cause (heap_faults.Shape line) found = TextCause.at_fault (record { fault = heap_faults.Shape line; at_fault = found (λ e. cc); other = λ e. cc; is = refl })
+heap_cause (heap_faults.NoPlaces line) found = TextCause.at_fault (record { fault = heap_faults.NoPlaces line; at_fault = found (λ e. cc); other = λ e. cc; is = refl })
+heap_cause heap_faults.Memory found = TextCause.no_memory refl
 
 -- why a module that was read to its end is not taken
 pub no_source : {T : Type 0} (old new : Source) (path text : List ℕ) (r : Result T Status) → Tells (old.bytes_at path) text → length text ≤ limit_of 0 → IsWithin new →

@@ -8,9 +8,11 @@ use Rattle.dl_closed.proofs.Histories.{all_at}
 use Rattle.dl_io.specs.Faults.{Rose}
 use Rattle.dl_io.specs.Source.{Source}
 use Rattle.dl_io.specs.Taken.{Taken}
+use Rattle.dl_heapfile.specs.Names.{HasNames}
 use Rattle.dl_history.specs.Histories.{Seen}
 use Rattle.dl_ir.specs.declared.answers.Refusal.{Refusal}
 use Rattle.dl_ir.specs.declared.modules.Module.{Module}
+use Rattle.dl_naming.specs.Naming.{SpelledHasNames}
 use Rattle.dl_command.specs.declared.status.Status.{Status}
 use Rattle.dl_command.specs.declared.status.Status.TheVariants as statuses
 use Rattle.dl_command.specs.declared.loading.Input.{Input}
@@ -20,7 +22,7 @@ use Rattle.dl_command.specs.Texts.{AreFiles, Spells, Behind, behind_of, nothing_
 use Rattle.dl_command.specs.Told.{TellsFile, RefusesFile, CallsFor, EndsWith, EndsAsTold, IsInOrder}
 use Rattle.dl_command.specs.Wanted.{Wanted, wanted, numbers_of, paths_of}
 use Rattle.dl_command.specs.Words.{Text, Task}
-use Rattle.dl_command.proofs.ToldLemmas.{Untaken, module_untaken, file_untaken, module_refused, file_refused, module_not_taken, file_not_taken, told_source, file_at, get_take}
+use Rattle.dl_command.proofs.ToldLemmas.{Untaken, module_untaken, file_untaken, module_refused, file_refused, module_not_taken, file_not_taken, told_source, told_named, found_named, file_at, get_take}
 
 -- a file up to the one at this place could not be read, or there was no memory
 before_it : {numbers : List ℕ} {place before number : ℕ} {path : Text} {old new : Source} {answer status : Status} → before ≤ place → slice_get numbers before ≡ Some number
@@ -49,62 +51,62 @@ numbers files = 0 ∷ map (λ (file : Wanted). file.number) files
 number_at : (files : List Wanted) (at : ℕ) (file : Wanted) → slice_get files at ≡ Some file → slice_get (numbers files) (suc at) ≡ Some file.number
 number_at files at file is = slice_get-map (λ (f : Wanted). f.number) files at ∙ ap (option_map (λ (f : Wanted). f.number)) is
 
-earlier : {source : Module} {old new : Source} {files : List Wanted} {at stop : ℕ} {answer status : Status} → stop < at → Called source old files at answer →
+earlier : {source : Module} {old new : Source} {files : List Wanted} {at stop : ℕ} {answer status : Status} → HasNames source → stop < at → Called source old files at answer →
     Stopped source old new files stop status → EndsWith (numbers files) (at + 1) answer status
-earlier {source = source} {old = old} {files = files} {at = at} {stop = stop} below called stopped =
+earlier {source = source} {old = old} {files = files} {at = at} {stop = stop} named below called stopped =
     let tells = all_at (TellsFile source old) (take at files) stop stopped.file called.tells (get_take files at stop stopped.file below stopped.is_file) in
-    before_it {before = suc stop} (omega (arith, below)) (number_at files stop stopped.file stopped.is_file) (file_untaken tells stopped.cause)
+    before_it {before = suc stop} (omega (arith, below)) (number_at files stop stopped.file stopped.is_file) (file_untaken named tells stopped.cause)
 
-same_place : {source : Module} {old new : Source} {files : List Wanted} {at stop : ℕ} {answer status : Status} → stop ≡ at → Called source old files at answer →
+same_place : {source : Module} {old new : Source} {files : List Wanted} {at stop : ℕ} {answer status : Status} → HasNames source → stop ≡ at → Called source old files at answer →
     Stopped source old new files stop status → EndsWith (numbers files) (at + 1) answer status
-same_place {source = source} {old = old} {new = new} {files = files} {at = at} {stop = stop} {answer = answer} {status = status} same called stopped =
+same_place {source = source} {old = old} {new = new} {files = files} {at = at} {stop = stop} {answer = answer} {status = status} named same called stopped =
     let stopped_file : slice_get files at ≡ Some stopped.file = subst (λ n. slice_get files n ≡ Some stopped.file) same stopped.is_file in
     let called_file = called.is_file in
     let one : stopped.file ≡ called.file = cc in
     let place : suc at ≡ at + 1 = omega arith in
     let here : slice_get (numbers files) (at + 1) ≡ Some called.file.number = subst (λ n. slice_get (numbers files) n ≡ Some called.file.number) place (number_at files at called.file called.is_file) in
-    file_refused here called.refused (subst (λ f. NoFile source f old new status) one stopped.cause)
+    file_refused named here called.refused (subst (λ f. NoFile source f old new status) one stopped.cause)
 
-later : {P : Type 0} {source : Module} {old new : Source} {files : List Wanted} {at stop : ℕ} {answer status : Status} → at < stop → Called source old files at answer →
+later : {P : Type 0} {source : Module} {old new : Source} {files : List Wanted} {at stop : ℕ} {answer status : Status} → HasNames source → at < stop → Called source old files at answer →
     Stopped source old new files stop status → P
-later {source = source} {old = old} {files = files} {at = at} {stop = stop} below called stopped =
+later {source = source} {old = old} {files = files} {at = at} {stop = stop} named below called stopped =
     let found = file_at source old (take stop files) nothing_behind stopped.before at called.file stopped.are (get_take files stop at called.file below called.is_file) in
-    file_not_taken called.refused found.is
+    file_not_taken named called.refused found.is
 
-refused_at : {source : Module} {old new : Source} {files : List Wanted} {at stop : ℕ} {answer status : Status} → Called source old files at answer →
+refused_at : {source : Module} {old new : Source} {files : List Wanted} {at stop : ℕ} {answer status : Status} → HasNames source → Called source old files at answer →
     Stopped source old new files stop status → EndsWith (numbers files) (at + 1) answer status
-refused_at {at = at} {stop = stop} called stopped = elim (cases_lt stop at) [
-  | inl below ↦ earlier below called stopped
+refused_at {at = at} {stop = stop} named called stopped = elim (cases_lt stop at) [
+  | inl below ↦ earlier named below called stopped
   | inr past ↦ elim (cases_lt at stop) [
-    | inl above ↦ later above called stopped
-    | inr not_above ↦ same_place (omega (arith, past, not_above)) called stopped
+    | inl above ↦ later named above called stopped
+    | inr not_above ↦ same_place named (omega (arith, past, not_above)) called stopped
   ]
 ]
 
 -- a call that was stopped ends as what is told calls for
-stopped_ends : {task : Task} {old new : Source} {status : Status} → Refuses task old new status → EndsAsTold old task status
-stopped_ends {old = old} {status = status} (Refuses.no_memory is within) place answer calls = EndsWith.no_memory is
-stopped_ends {task = task} {status = status} (Refuses.no_module cause) place answer (CallsFor.source_file is refused) =
+stopped_ends : {task : Task} {old new : Source} {status : Status} → SpelledHasNames → Refuses task old new status → EndsAsTold old task status
+stopped_ends {old = old} {status = status} named (Refuses.no_memory is within) place answer calls = EndsWith.no_memory is
+stopped_ends {task = task} {status = status} named (Refuses.no_module cause) place answer (CallsFor.source_file is refused) =
     subst (λ p. EndsWith (numbers_of task) p answer status) (sym is) (module_refused refl refused cause)
-stopped_ends (Refuses.no_module cause) place answer (CallsFor.wanted_file source at file is tells before is_file refused) =
+stopped_ends named (Refuses.no_module cause) place answer (CallsFor.wanted_file source at file is tells before is_file refused) =
     before_it {before = 0} {number = 0} (omega arith) refl (module_untaken tells cause)
-stopped_ends (Refuses.no_file tree source before at file source_file files is_file cause) place answer (CallsFor.source_file is refused) =
+stopped_ends named (Refuses.no_file tree source before at file source_file files is_file cause) place answer (CallsFor.source_file is refused) =
     module_not_taken refused source_file
-stopped_ends {task = task} {old = old} {new = new} {status = status} (Refuses.no_file tree found before stop stopped source_file files is_stopped cause) place answer (CallsFor.wanted_file source at file is tells told is_file refused) =
+stopped_ends {task = task} {old = old} {new = new} {status = status} named (Refuses.no_file tree found before stop stopped source_file files is_stopped cause) place answer (CallsFor.wanted_file source at file is tells told is_file refused) =
     let same : source ≡ found = told_source tells source_file in
     let stops : Stopped source old new (wanted task) stop status = subst (λ m. Stopped m old new (wanted task) stop status) (sym same)
     (record { before = before; file = stopped; are = files; is_file = is_stopped; cause = cause }) in
     let called : Called source old (wanted task) at answer = record { file = file; tells = told; is_file = is_file; refused = refused } in
-    subst (λ p. EndsWith (numbers_of task) p answer status) (sym is) (refused_at called stops)
+    subst (λ p. EndsWith (numbers_of task) p answer status) (sym is) (refused_at (told_named named tells) called stops)
 
 -- where the files spell what they should, nothing calls for a refusal
-none_called : {P : Type 0} {task : Task} {old : Source} {input : Input} {place : ℕ} {answer : Status} → Spells old task input →
+none_called : {P : Type 0} {task : Task} {old : Source} {input : Input} {place : ℕ} {answer : Status} → SpelledHasNames → Spells old task input →
     CallsFor old task place answer → P
-none_called spells (CallsFor.source_file is refused) = module_not_taken refused spells.source_file
-none_called {task = task} {old = old} {input = input} {answer = answer} spells (CallsFor.wanted_file source at file is tells told is_file refused) =
+none_called named spells (CallsFor.source_file is refused) = module_not_taken refused spells.source_file
+none_called {task = task} {old = old} {input = input} {answer = answer} named spells (CallsFor.wanted_file source at file is tells told is_file refused) =
     let same : source ≡ input.source = told_source tells spells.source_file in
     let found = file_at input.source old (wanted task) nothing_behind (behind_of input) at file spells.behind is_file in
-    file_not_taken (subst (λ m. RefusesFile m old file answer) same refused) found.is
+    file_not_taken (found_named named spells.source_file) (subst (λ m. RefusesFile m old file answer) same refused) found.is
 
 -- at a sound path no file fails
 no_fault : {file : ℕ} {path : Text} {old new : Source} {status : Status} → Untaken file path old new status → Contains old.sound_paths path → status ≡ statuses.Memory
@@ -112,16 +114,16 @@ no_fault (Untaken.failed is fails) sound = absurd (fails.not_sound sound)
 no_fault (Untaken.memory is) sound = is
 
 -- a call that was stopped though all is in order had no memory
-stopped_in_order : {task : Task} {old new : Source} {status : Status} → Refuses task old new status → IsInOrder old task → status ≡ statuses.Memory
-stopped_in_order (Refuses.no_memory is within) order = is
-stopped_in_order {task = task} {old = old} (Refuses.no_module cause) order =
+stopped_in_order : {task : Task} {old new : Source} {status : Status} → SpelledHasNames → Refuses task old new status → IsInOrder old task → status ≡ statuses.Memory
+stopped_in_order named (Refuses.no_memory is within) order = is
+stopped_in_order {task = task} {old = old} named (Refuses.no_module cause) order =
     no_fault (module_untaken order.source_file cause) (All-head (Contains old.sound_paths) task.first (map (λ (file : Wanted). file.path) (wanted task)) order.sound)
-stopped_in_order {task = task} {old = old} {status = status} (Refuses.no_file tree found before stop file source_file files is_file cause) order =
+stopped_in_order {task = task} {old = old} {status = status} named (Refuses.no_file tree found before stop file source_file files is_file cause) order =
     let same : order.source ≡ found = told_source order.source_file source_file in
     let tells : TellsFile found old file = subst (λ m. TellsFile m old file) same (all_at (TellsFile order.source old) (wanted task) stop file order.wanted_files is_file) in
     let path : slice_get (map (λ (f : Wanted). f.path) (wanted task)) stop ≡ Some file.path = slice_get-map (λ (f : Wanted). f.path) (wanted task) stop ∙ ap (option_map (λ (f : Wanted). f.path)) is_file in
     let sound = all_at (Contains old.sound_paths) (paths_of task) (suc stop) file.path order.sound path in
-    no_fault (file_untaken tells cause) sound
+    no_fault (file_untaken (found_named named source_file) tells cause) sound
 
 -- what was printed was printed whole, where the sink did not fail
 printed_whole : (status : Status) (text : Text) (before after : Taken) → Prints status text before after → (Rose before.faults after.faults → ⊥) →
@@ -134,24 +136,25 @@ printed_whole (statuses.TooLong file) text before after prints works = absurd pr
 printed_whole (statuses.ModuleFault line why) text before after prints works = absurd prints
 printed_whole (statuses.OpsFault file line why) text before after prints works = absurd prints
 printed_whole statuses.Memory text before after prints works = absurd prints
+printed_whole (statuses.HeapFault line why) text before after prints works = absurd prints
 
 module _ {given : Option Task} {old new : Source} {before after : Taken} {status : Status} {history : Seen} {refusals : List Refusal} where
-  pub ends_as_told : Ends given old new before after status history refusals → (task : Task) → given ≡ Some task → EndsAsTold old task status
-  ends_as_told (Ends.usage is none same same_taken no_history no_refusals) task is_task file answer calls = absurd (cc)
-  ends_as_told (Ends.unread is same same_taken no_history no_refusals) task is_task file answer calls = EndsWith.no_memory is
-  ends_as_told (Ends.refused found is_found cause same_taken no_history no_refusals) task is_task file answer calls =
+  pub ends_as_told : SpelledHasNames → Ends given old new before after status history refusals → (task : Task) → given ≡ Some task → EndsAsTold old task status
+  ends_as_told named (Ends.usage is none same same_taken no_history no_refusals) task is_task file answer calls = absurd (cc)
+  ends_as_told named (Ends.unread is same same_taken no_history no_refusals) task is_task file answer calls = EndsWith.no_memory is
+  ends_as_told named (Ends.refused found is_found cause same_taken no_history no_refusals) task is_task file answer calls =
       let same : found ≡ task = cc in
-      stopped_ends (subst (λ t. Refuses t old new status) same cause) file answer calls
-  ends_as_told (Ends.ran text ran within prints) task is_task file answer calls =
+      stopped_ends named (subst (λ t. Refuses t old new status) same cause) file answer calls
+  ends_as_told named (Ends.ran text ran within prints) task is_task file answer calls =
       let is_found = ran.is_task in
       let same : ran.task ≡ task = cc in
-      none_called (subst (λ t. Spells old t ran.input) same ran.spells) calls
+      none_called named (subst (λ t. Spells old t ran.input) same ran.spells) calls
 
-  pub ends_complete : Ends given old new before after status history refusals → (task : Task) → given ≡ Some task → IsInOrder old task →
+  pub ends_complete : SpelledHasNames → Ends given old new before after status history refusals → (task : Task) → given ≡ Some task → IsInOrder old task →
       (Rose before.faults after.faults → ⊥) → (status ≡ statuses.Done) ⊎ (status ≡ statuses.Memory)
-  ends_complete (Ends.usage is none same same_taken no_history no_refusals) task is_task order works = absurd (cc)
-  ends_complete (Ends.unread is same same_taken no_history no_refusals) task is_task order works = inr is
-  ends_complete (Ends.refused found is_found cause same_taken no_history no_refusals) task is_task order works =
+  ends_complete named (Ends.usage is none same same_taken no_history no_refusals) task is_task order works = absurd (cc)
+  ends_complete named (Ends.unread is same same_taken no_history no_refusals) task is_task order works = inr is
+  ends_complete named (Ends.refused found is_found cause same_taken no_history no_refusals) task is_task order works =
       let same : found ≡ task = cc in
-      inr (stopped_in_order (subst (λ t. Refuses t old new status) same cause) order)
-  ends_complete (Ends.ran text ran within prints) task is_task order works = printed_whole status text before after prints works
+      inr (stopped_in_order named (subst (λ t. Refuses t old new status) same cause) order)
+  ends_complete named (Ends.ran text ran within prints) task is_task order works = printed_whole status text before after prints works

@@ -3,6 +3,7 @@ use Rattle.std.proofs.Common.{◌≡◌, ◌∙◌, List, Option, Some, None, ap
 use Rattle.std.specs.Prelude.{option_and_then}
 use Rattle.dl_io.specs.Source.{Source}
 use Rattle.dl_io.specs.Taken.{Taken}
+use Rattle.dl_naming.specs.Naming.{SpelledHasNames}
 use Rattle.dl_command.specs.Promise.{Ends, KeepsPromise}
 use Rattle.dl_command.specs.Words.{Task, Text, still_task_of_words, task_of_words, unless_run}
 use Rattle.dl_command.specs.declared.top.Outcome.{Outcome}
@@ -10,17 +11,17 @@ use Rattle.dl_command.specs.declared.words.Verb.{Verb}
 use Rattle.dl_command.proofs.EndLemmas.{ends_done, ends_cut, ends_nothing, ends_usage, ends_bad_words, ends_cause, ends_long, ends_most}
 use Rattle.dl_command.proofs.OrderLemmas.{ends_as_told, ends_complete}
 
-pub ends_keeps : (given : Option Task) (old new : Source) (before after : Taken) (outcome : Outcome) → Ends given old new before after outcome.status outcome.history outcome.refusals
+pub ends_keeps : (given : Option Task) (old new : Source) (before after : Taken) (outcome : Outcome) → SpelledHasNames → Ends given old new before after outcome.status outcome.history outcome.refusals
     → KeepsPromise given old new before after outcome
-ends_keeps given old new before after outcome ends = record {
+ends_keeps given old new before after outcome named ends = record {
   done = ends_done ends;
   write_fault = ends_cut ends;
   nothing = ends_nothing ends;
   usage = ends_usage ends;
   bad_words = ends_bad_words ends;
   causes = ends_cause ends;
-  exact = ends_as_told ends;
-  complete = ends_complete ends;
+  exact = ends_as_told named ends;
+  complete = ends_complete named ends;
   too_long = ends_long ends;
   at_most = ends_most ends;
 }

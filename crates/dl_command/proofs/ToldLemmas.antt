@@ -4,6 +4,8 @@ use Rattle.std.specs.Prelude.{slice_get}
 use Rattle.dl_io.specs.Source.{Source, Tells}
 use Rattle.dl_ir.specs.declared.modules.Module.{Module}
 use Rattle.dl_grammar.specs.declared.tree.Tree.{Tree}
+use Rattle.dl_heapfile.specs.Names.{HasNames}
+use Rattle.dl_naming.specs.Naming.{SpelledHasNames}
 use Rattle.dl_command.specs.declared.loading.Content.{Content}
 use Rattle.dl_command.specs.declared.status.Status.{Status}
 use Rattle.dl_command.specs.declared.status.Status.TheVariants as statuses
@@ -13,7 +15,7 @@ use Rattle.dl_command.specs.Texts.{IsFile, AreFiles, IsModuleFile, IsModuleText,
 use Rattle.dl_command.specs.Told.{IsTold, TellsModule, TellsFile, RefusesModule, RefusesFile, EndsWith}
 use Rattle.dl_command.specs.Wanted.{Wanted}
 use Rattle.dl_command.specs.Words.{Text, limit_of}
-use Rattle.dl_command.proofs.FaultLemmas.{one_source, module_or_fault, one_module_fault, one_fault, says_or_fault}
+use Rattle.dl_command.proofs.FaultLemmas.{one_source, module_or_fault, one_module_fault, one_fault, says_or_fault, text_named}
 
 -- what is told is what is found
 same_text : (told : Option Text) (text found : Text) → told ≡ Some text → Tells told found → text ≡ found
@@ -41,6 +43,7 @@ unread statuses.Usage file path old new cause = absurd cause
 unread (statuses.ModuleFault line why) file path old new cause = absurd cause
 unread (statuses.OpsFault f line why) file path old new cause = absurd cause
 unread statuses.WriteFault file path old new cause = absurd cause
+unread (statuses.HeapFault line why) file path old new cause = absurd cause
 
 -- why a file was not taken that is told and is what it should be
 pub data Untaken (file : ℕ) (path : Text) (old new : Source) (status : Status) : Type 0 where
@@ -60,12 +63,12 @@ module _ {old new : Source} {status : Status} where
       let same = same_text _ tells.text text tells.is_told.told told in
       module_or_fault text source line why (subst (λ t. IsModuleText t source) same tells.spells) is_fault
 
-  pub file_untaken : {source : Module} {file : Wanted} → TellsFile source old file → NoFile source file old new status → Untaken file.number file.path old new status
-  file_untaken {file = file} tells (NoFile.unread cause) = read_told tells.is_told (unread status file.number file.path old new cause)
-  file_untaken tells (NoFile.no_memory is within) = Untaken.memory is
-  file_untaken {source = source} {file = file} tells (NoFile.at_fault text told short is_fault within) =
+  pub file_untaken : {source : Module} {file : Wanted} → HasNames source → TellsFile source old file → NoFile source file old new status → Untaken file.number file.path old new status
+  file_untaken {file = file} named tells (NoFile.unread cause) = read_told tells.is_told (unread status file.number file.path old new cause)
+  file_untaken named tells (NoFile.no_memory is within) = Untaken.memory is
+  file_untaken {source = source} {file = file} named tells (NoFile.at_fault text told short is_fault within) =
       let same = same_text _ tells.text text tells.is_told.told told in
-      says_or_fault source file.number file.form text tells.content status (rw (← same) tells.says) is_fault
+      says_or_fault source file.number file.form text tells.content status named (rw (← same) tells.says) is_fault
 
   -- a refusal that is called for is answered
   read_refused : {file : ℕ} {path : Text} {numbers : List ℕ} {place : ℕ} {answer : Status} → slice_get numbers place ≡ Some file → Unread file path old new status
@@ -87,23 +90,30 @@ module _ {old new : Source} {status : Status} where
       let same = same_text _ text found told.told tells in
       EndsWith.answered (is ∙ one_module_fault found other line otherwise why found_fault (subst (λ t. IsModuleFault t line why) same is_fault) ∙ sym is_answer)
 
-  pub file_refused : {source : Module} {file : Wanted} {numbers : List ℕ} {place : ℕ} {answer : Status} → slice_get numbers place ≡ Some file.number → RefusesFile source old file answer → NoFile source file old new status
+  pub file_refused : {source : Module} {file : Wanted} {numbers : List ℕ} {place : ℕ} {answer : Status} → HasNames source → slice_get numbers place ≡ Some file.number → RefusesFile source old file answer → NoFile source file old new status
       → EndsWith numbers place answer status
-  file_refused here refused (NoFile.no_memory is within) = EndsWith.no_memory is
-  file_refused {file = file} here (RefusesFile.too_long text told long is_answer) (NoFile.unread cause) =
+  file_refused named here refused (NoFile.no_memory is within) = EndsWith.no_memory is
+  file_refused {file = file} named here (RefusesFile.too_long text told long is_answer) (NoFile.unread cause) =
       read_refused here (unread status file.number file.path old new cause) (λ found. sym is_answer)
-  file_refused {file = file} here (RefusesFile.at_fault text told is_fault) (NoFile.unread cause) =
+  file_refused {file = file} named here (RefusesFile.at_fault text told is_fault) (NoFile.unread cause) =
       read_refused here (unread status file.number file.path old new cause) (λ found.
       too_much text text (limit_of file.number) refl told.short (long_text _ text (limit_of file.number) told.told found.long))
-  file_refused {file = file} here (RefusesFile.too_long text told long is_answer) (NoFile.at_fault found tells short is_fault within) =
+  file_refused {file = file} named here (RefusesFile.too_long text told long is_answer) (NoFile.at_fault found tells short is_fault within) =
       too_much found text (limit_of file.number) (sym (same_text _ text found told tells)) short long
-  file_refused {source = source} {file = file} {answer = answer} here (RefusesFile.at_fault text told is_fault) (NoFile.at_fault found tells short found_fault within) =
+  file_refused {source = source} {file = file} {answer = answer} named here (RefusesFile.at_fault text told is_fault) (NoFile.at_fault found tells short found_fault within) =
       let same = same_text _ text found told.told tells in
-      EndsWith.answered (one_fault source file.number file.form found status answer found_fault (subst (λ t. IsFaultOf source file.number file.form t answer) same is_fault))
+      EndsWith.answered (one_fault source file.number file.form found status answer named found_fault (subst (λ t. IsFaultOf source file.number file.form t answer) same is_fault))
 
 -- the text of a module's file
 module_text : {files : Source} {path : Text} {tree : Tree} {source : Module} (file : IsModuleFile files path tree source) → IsModuleText file.text source
 module_text {tree = tree} file = record { tree = tree; spelled = file.spelled; typed = file.typed }
+
+-- a module that is told, and one that was found, have names by which a heap file can tell their objects
+pub told_named : {files : Source} {path : Text} {source : Module} → SpelledHasNames → TellsModule files path source → HasNames source
+told_named {source = source} named tells = text_named tells.text source named tells.spells
+
+pub found_named : {files : Source} {path : Text} {tree : Tree} {source : Module} → SpelledHasNames → IsModuleFile files path tree source → HasNames source
+found_named {source = source} named file = text_named file.text source named (module_text file)
 
 -- a file for which a refusal is called was not taken
 pub module_not_taken : {P : Type 0} {files : Source} {path : Text} {tree : Tree} {source : Module} {answer : Status} → RefusesModule files path answer →
@@ -115,12 +125,12 @@ module_not_taken {source = source} (RefusesModule.at_fault text line why told is
     module_or_fault file.text source line why (module_text file) (subst (λ t. IsModuleFault t line why) same is_fault)
 
 pub file_not_taken : {P : Type 0} {files : Source} {source : Module} {file : Wanted} {answer : Status} {content : Content} →
-    RefusesFile source files file answer → IsFile source files file content → P
-file_not_taken {file = file} (RefusesFile.too_long text told long is_answer) found =
+    HasNames source → RefusesFile source files file answer → IsFile source files file content → P
+file_not_taken {file = file} named (RefusesFile.too_long text told long is_answer) found =
     too_much found.text text (limit_of file.number) (sym (same_text _ text found.text told found.told)) found.short long
-file_not_taken {source = source} {file = file} {answer = answer} {content = content} (RefusesFile.at_fault text told is_fault) found =
+file_not_taken {source = source} {file = file} {answer = answer} {content = content} named (RefusesFile.at_fault text told is_fault) found =
     let same = same_text _ text found.text told.told found.told in
-    says_or_fault source file.number file.form found.text content answer found.says (subst (λ t. IsFaultOf source file.number file.form t answer) same is_fault)
+    says_or_fault source file.number file.form found.text content answer named found.says (subst (λ t. IsFaultOf source file.number file.form t answer) same is_fault)
 
 -- the module that is told is the one that is found
 pub told_source : {files : Source} {path : Text} {tree : Tree} {a b : Module} → TellsModule files path a → IsModuleFile files path tree b → a ≡ b

@@ -1,17 +1,19 @@
 -- The files that a command wants: lists that grow, and how many files there are.
-use Rattle.std.proofs.Common.{◌≡◌, ℕ, zero, suc, ◌+◌, ◌<◌, ◌≤◌, List, [], ◌∷◌, ◌++◌, Some, take, length, get_or, refl, sym, ◌∙◌, ap, subst, arith, append_assoc}
+use Rattle.std.proofs.Common.{◌≡◌, ℕ, zero, suc, ◌+◌, ◌<◌, ◌≤◌, List, [], ◌∷◌, ◌++◌, Option, Some, None, take, length, get_or, refl, sym, ◌∙◌, ap, subst, arith, append_assoc}
 use Rattle.std.specs.Prelude.{All, slice_get, map, option_map}
 use Rattle.std.specs.List.{take-map}
 use Rattle.std.specs.Borrow.{Bor}
+use Rattle.std.proofs.lemmas.Bool.{ne_eqb}
 use Rattle.std.proofs.lemmas.List.{get_or-map, get_or_default, length-map, length-take-le, take_more, map-append}
-use Rattle.std.proofs.lemmas.List.Elements.{All-cons, All-nil}
+use Rattle.std.proofs.lemmas.List.Elements.{All-append, All-cons, All-nil}
 use Rattle.std.proofs.lemmas.Option.{slice_get-map, slice_get_read}
 use Rattle.dl_command.specs.declared.wanted.Form.TheVariants as forms
 use Rattle.dl_command.specs.declared.wanted.WantedFile.{WantedFile as Held}
 use Rattle.dl_command.specs.declared.words.Verb.{Verb}
 use Rattle.dl_command.specs.declared.words.Verb.TheVariants as verbs
-use Rattle.dl_command.specs.Wanted.{Wanted, operations_from, wanted_by, wanted_held}
-use Rattle.dl_command.specs.Words.{Text}
+use Rattle.dl_command.specs.Loading.{IsNumberOf}
+use Rattle.dl_command.specs.Wanted.{Wanted, heap_file, operations_from, wanted, wanted_by, wanted_held}
+use Rattle.dl_command.specs.Words.{Task, Text, heap_number, limit_of}
 
 -- what is seen of the element at a place
 pub seen_at : {X Y : Type 0} (f : X → Y) (xs : List X) (i : ℕ) (d : X) → i < length xs → slice_get (map f xs) i ≡ Some (f (get_or xs i d))
@@ -52,23 +54,37 @@ operations_more old new first i paths d within same =
     ∙ sym (operations_push first (take i texts) path)
     ∙ ap (operations_from first) (sym (seen_to (λ (path : Bor Text). path.now) paths i d within)))
 
--- behind the module no file has number 0
+-- a file that is neither the module nor the heap file is not long
+pub plain_limit : (file : ℕ) → (0 < file) × (file < heap_number) → limit_of file ≡ 4194304
+plain_limit file between = rw (ne_eqb file 0 (λ e. omega (arith, e, between.0)), ne_eqb file heap_number (λ e. omega (arith, e, between.1))) refl
+
+-- each file behind the module has a number that its form may have
 abbrev HasNumber : Wanted → Type 0
-HasNumber file = 0 < file.number
+HasNumber file = IsNumberOf file.form file.number
 
-operations_numbered : (number : ℕ) (paths : List Text) → 0 < number → All HasNumber (operations_from number paths)
-operations_numbered number [] some = All-nil HasNumber
-operations_numbered number (path ∷ paths) some = All-cons HasNumber _ (operations_from (number + 1) paths) some (operations_numbered (number + 1) paths (omega arith))
+operations_numbered : (number : ℕ) (paths : List Text) → 0 < number → number + length paths ≤ heap_number → All HasNumber (operations_from number paths)
+operations_numbered number [] some few = All-nil HasNumber
+operations_numbered number (path ∷ paths) some few =
+    All-cons HasNumber _ (operations_from (number + 1) paths) (some, omega (arith, few)) (operations_numbered (number + 1) paths (omega arith) (omega (arith, few)))
 
-pub wanted_numbered : (verb : Verb) (rest : List Text) → All (λ (file : Wanted). 0 < file.number) (wanted_by verb rest)
-wanted_numbered verbs.Serial rest = operations_numbered 1 rest (omega arith)
-wanted_numbered verbs.Run rest = operations_numbered 1 rest (omega arith)
-wanted_numbered verbs.Step [] = All-nil HasNumber
-wanted_numbered verbs.Step (path ∷ paths) = All-cons HasNumber _ (operations_from 2 paths) (omega arith) (operations_numbered 2 paths (omega arith))
-wanted_numbered verbs.Show rest = operations_numbered 1 rest (omega arith)
-wanted_numbered verbs.Work rest = All-nil HasNumber
+heap_numbered : (places : ℕ) (heap : Option Text) → All HasNumber (heap_file places heap)
+heap_numbered places None = All-nil HasNumber
+heap_numbered places (Some path) = All-cons HasNumber _ [] refl (All-nil HasNumber)
+
+rest_numbered : (verb : Verb) (rest : List Text) → length rest ≤ 65 → All HasNumber (wanted_by verb rest)
+rest_numbered verbs.Serial rest few = operations_numbered 1 rest (omega arith) (omega (arith, few))
+rest_numbered verbs.Run rest few = operations_numbered 1 rest (omega arith) (omega (arith, few))
+rest_numbered verbs.Step [] few = All-nil HasNumber
+rest_numbered verbs.Step (path ∷ paths) few =
+    All-cons HasNumber _ (operations_from 2 paths) (omega arith, omega arith) (operations_numbered 2 paths (omega arith) (omega (arith, few)))
+rest_numbered verbs.Show rest few = operations_numbered 1 rest (omega arith) (omega (arith, few))
+rest_numbered verbs.Work rest few = All-nil HasNumber
+
+pub wanted_numbered : (task : Task) → length task.rest ≤ 65 → All (λ (file : Wanted). IsNumberOf file.form file.number) (wanted task)
+wanted_numbered task few =
+    All-append HasNumber (heap_file task.places task.heap) (wanted_by task.verb task.rest) (heap_numbered task.places task.heap) (rest_numbered task.verb task.rest few)
 
 -- what holds of the files as they are seen holds of them as they are held
-pub held_numbered : (files : List Held) → All (λ (file : Wanted). 0 < file.number) (map wanted_held files) → All (λ (file : Held). 0 < file.number) files
+pub held_numbered : (files : List Held) → All (λ (file : Wanted). IsNumberOf file.form file.number) (map wanted_held files) → All (λ (file : Held). IsNumberOf file.form file.number) files
 held_numbered files all k d within =
-    subst (λ (file : Wanted). 0 < file.number) (get_or-map wanted_held files k d (wanted_held d) within) (all k (wanted_held d) (rw (length-map files wanted_held) within))
+    subst (λ (file : Wanted). IsNumberOf file.form file.number) (get_or-map wanted_held files k d (wanted_held d) within) (all k (wanted_held d) (rw (length-map files wanted_held) within))

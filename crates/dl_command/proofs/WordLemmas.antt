@@ -1,6 +1,6 @@
 -- What reading the words needs: numbers in texts, the range of the option, and what the table of commands asks for.
 use Rattle.std.proofs.Common.{◌≡◌, ◌≢◌, ◌∙◌, ℕ, ◌-◌, ◌^◌, ◌<◌, ◌≤◌, Bool, true, false, true≢false, List, [], ◌∷◌, length, map, Option, Some, None, Result, Ok, Err, IfOk, refl, sym, ap, subst, inl, inr, arith}
-use Rattle.std.specs.Prelude.{codes, bytes_eq, option_map, option_and_then, slice_get, not, pos, unwrap_or, nat_lt}
+use Rattle.std.specs.Prelude.{codes, bytes_eq, is_some, option_map, option_and_then, slice_get, not, pos, unwrap_or, nat_lt, ◌&&◌}
 use Rattle.std.specs.List.{All, slice_index_or}
 use Rattle.std.specs.Borrow.{Bor}
 use Rattle.std.specs.Str.Parse.{ParsesUnsigned, digits_value, without_leading_plus}
@@ -34,7 +34,7 @@ use Rattle.clap.proofs.ValueTestLemmas.{accepts-Accepts, Accepts-accepts}
 use Rattle.clap.proofs.WalkLemmas.{both, one_text-rows}
 use Rattle.clap.specs.declared.error.Error.{Error}
 use Rattle.clap.specs.declared.error.kind.ErrorKind.TheVariants as kinds
-use Rattle.dl_command.specs.Words.{Line, MayHave, Task, Text, command_line, command_rule, first_rule, line_of_matches, number_of, places_parser, places_rule, rest_rule, rules, task_by, task_of, task_of_line, task_of_matches, task_of_words}
+use Rattle.dl_command.specs.Words.{Line, MayHave, Task, Text, command_line, command_rule, first_rule, heap_rule, line_of_matches, number_of, places_parser, places_rule, rest_rule, rules, task_by, task_of, task_of_line, task_of_matches, task_of_words}
 use Rattle.dl_command.specs.declared.words.Command.{Command as Held}
 use Rattle.dl_command.specs.declared.words.CommandRow.{CommandRow}
 use Rattle.dl_command.specs.declared.words.Verb.TheVariants as verbs
@@ -94,7 +94,7 @@ all_rules : (P : Rule → Type 0) (xs : List Arg) → All P (map rule_of xs) →
 all_rules P xs all k d lt =
     subst P (get_or-map rule_of xs k d (rule_of d) lt) (all k (rule_of d) (rw (length-map xs rule_of) lt))
 
--- what holds of the four rules holds of the rule of each argument of the command line
+-- what holds of the rules holds of the rule of each argument of the command line
 each_rule : (P : Rule → Type 0) (line : Command) → app_of line ≡ command_line → All P rules → All (λ a. P (rule_of a)) (args_of line)
 each_rule P line shape all =
     let same : map rule_of (args_of line) ≡ rules = ap (λ (a : App). a.top.rules) shape in
@@ -106,20 +106,22 @@ HasNumbers rule = bytes_eq rule.id (codes "places") ≡ true → rule.parser ≡
 
 all_numbers : All HasNumbers rules
 all_numbers =
-    All-cons HasNumbers command_rule (first_rule ∷ rest_rule ∷ places_rule ∷ []) (λ e. not_both (bytes_eq (codes "COMMAND") (codes "places")) refl e)
-    (All-cons HasNumbers first_rule (rest_rule ∷ places_rule ∷ []) (λ e. not_both (bytes_eq (codes "FIRST") (codes "places")) refl e)
-    (All-cons HasNumbers rest_rule (places_rule ∷ []) (λ e. not_both (bytes_eq (codes "REST") (codes "places")) refl e)
-    (All-cons HasNumbers places_rule [] (λ e. refl) (All-nil HasNumbers))))
+    All-cons HasNumbers command_rule (first_rule ∷ rest_rule ∷ places_rule ∷ heap_rule ∷ []) (λ e. not_both (bytes_eq (codes "COMMAND") (codes "places")) refl e)
+    (All-cons HasNumbers first_rule (rest_rule ∷ places_rule ∷ heap_rule ∷ []) (λ e. not_both (bytes_eq (codes "FIRST") (codes "places")) refl e)
+    (All-cons HasNumbers rest_rule (places_rule ∷ heap_rule ∷ []) (λ e. not_both (bytes_eq (codes "REST") (codes "places")) refl e)
+    (All-cons HasNumbers places_rule (heap_rule ∷ []) (λ e. refl)
+    (All-cons HasNumbers heap_rule [] (λ e. not_both (bytes_eq (codes "heap") (codes "places")) refl e) (All-nil HasNumbers)))))
 
 abbrev IsPlainRule : Rule → Type 0
 IsPlainRule rule = rule.is_simple ≡ true
 
 all_plain : All IsPlainRule rules
 all_plain =
-    All-cons IsPlainRule command_rule (first_rule ∷ rest_rule ∷ places_rule ∷ []) refl
-    (All-cons IsPlainRule first_rule (rest_rule ∷ places_rule ∷ []) refl
-    (All-cons IsPlainRule rest_rule (places_rule ∷ []) refl
-    (All-cons IsPlainRule places_rule [] refl (All-nil IsPlainRule))))
+    All-cons IsPlainRule command_rule (first_rule ∷ rest_rule ∷ places_rule ∷ heap_rule ∷ []) refl
+    (All-cons IsPlainRule first_rule (rest_rule ∷ places_rule ∷ heap_rule ∷ []) refl
+    (All-cons IsPlainRule rest_rule (places_rule ∷ heap_rule ∷ []) refl
+    (All-cons IsPlainRule places_rule (heap_rule ∷ []) refl
+    (All-cons IsPlainRule heap_rule [] refl (All-nil IsPlainRule)))))
 
 module _ (line : Command) (m : ArgMatches) (shape : app_of line ≡ command_line) (p : IsParsedFrom line m) where
   plain : ((out-Command line).groups.items ≡ []) × ((out-Command line).has_globals ≡ false)
@@ -222,11 +224,11 @@ module _ (rows : List Row) where
       → option_and_then number_of (one_of (codes "places") rows) ≡ None → line_of_matches rows ≡ None
   no_number command first has has_first none = rw (has, has_first, none) refl
 
-  pub line_given : (command first : Text) (rest : List Text) (places : ℕ) → first_of (codes "COMMAND") rows ≡ Some command
+  pub line_given : (command first : Text) (rest : List Text) (places : ℕ) (heap : Option Text) → first_of (codes "COMMAND") rows ≡ Some command
       → first_of (codes "FIRST") rows ≡ Some first → option_and_then number_of (one_of (codes "places") rows) ≡ Some places
-      → rest ≡ unwrap_or (all_of (codes "REST") rows) []
-      → line_of_matches rows ≡ Some (record { command = command; first = first; rest = rest; places = places })
-  line_given command first rest places has has_first has_number is_rest = rw (has, has_first, has_number, is_rest) refl
+      → rest ≡ unwrap_or (all_of (codes "REST") rows) [] → heap ≡ first_of (codes "heap") rows
+      → line_of_matches rows ≡ Some (record { command = command; first = first; rest = rest; places = places; heap = heap })
+  line_given command first rest places heap has has_first has_number is_rest is_heap = rw (has, has_first, has_number, is_rest, is_heap) refl
 
   line_number : (line : Line) → line_of_matches rows ≡ Some line → option_and_then number_of (one_of (codes "places") rows) ≡ Some line.places
   line_number line given = go (first_of (codes "COMMAND") rows) (first_of (codes "FIRST") rows) (option_and_then number_of (one_of (codes "places") rows)) given
@@ -236,6 +238,7 @@ module _ (rows : List Row) where
         first = first;
         rest = unwrap_or (all_of (codes "REST") rows) [];
         places = places;
+        heap = first_of (codes "heap") rows;
       }) n) b) a ≡ Some line → n ≡ Some line.places
       go None b n e = absurd (cc)
       go (Some x) None n e = absurd (cc)
@@ -271,16 +274,19 @@ abbrev IsBy : Line → CommandRow → Task → Type 0
 IsBy line row task = (row.fewest ≤ length task.rest) × (length task.rest ≤ row.most) × (task.verb ≡ row.verb) × (task.places ≡ line.places)
 
 abbrev made : Line → CommandRow → Task
-made line row = record { verb = row.verb; first = line.first; rest = line.rest; places = line.places }
+made line row = record { verb = row.verb; first = line.first; rest = line.rest; places = line.places; heap = line.heap }
 
 by_row : (line : Line) (row : CommandRow) (task : Task) → task_by line row ≡ Some task → IsBy line row task
-by_row line row task given = go (nat_lt (length line.rest) row.fewest) refl (nat_lt row.most (length line.rest)) refl
+by_row line row task given =
+    go (nat_lt (length line.rest) row.fewest) refl (nat_lt row.most (length line.rest)) refl (is_some line.heap && not row.takes_heap) refl
   where
-    go : (a : Bool) → nat_lt (length line.rest) row.fewest ≡ a → (b : Bool) → nat_lt row.most (length line.rest) ≡ b → IsBy line row task
-    go true few b many = let none : None ≡ Some task = rw few at given in absurd (cc)
-    go false few true many = let none : None ≡ Some task = rw (few, many) at given in absurd (cc)
-    go false few false many =
-        let same : Some (made line row) ≡ Some task = rw (few, many) at given in
+    go : (a : Bool) → nat_lt (length line.rest) row.fewest ≡ a → (b : Bool) → nat_lt row.most (length line.rest) ≡ b
+        → (c : Bool) → is_some line.heap && not row.takes_heap ≡ c → IsBy line row task
+    go true few b many c none_taken = let none : None ≡ Some task = rw few at given in absurd (cc)
+    go false few true many c none_taken = let none : None ≡ Some task = rw (few, many) at given in absurd (cc)
+    go false few false many true none_taken = let none : None ≡ Some task = rw (few, many, none_taken) at given in absurd (cc)
+    go false few false many false taken =
+        let same : Some (made line row) ≡ Some task = rw (few, many, taken) at given in
         let is : made line row ≡ task = ap (λ o. unwrap_or o (made line row)) same in
         subst (IsBy line row) is (ltb-false _ _ few, ltb-false _ _ many, refl, refl)
 
@@ -302,15 +308,15 @@ table_asks line task given =
     go : (a : Bool) → bytes_eq (codes "serial") line.command ≡ a → (r : Bool) → bytes_eq (codes "run") line.command ≡ r → (s : Bool) → bytes_eq (codes "step") line.command ≡ s
         → (b : Bool) → bytes_eq (codes "show") line.command ≡ b → (d : Bool) → bytes_eq (codes "work") line.command ≡ d → IsAsked task × (task.places ≡ line.places)
     go true serial r run s step b show d work =
-        asked line (record { verb = verbs.Serial; fewest = 1; most = 1 }) task (rw serial at given) (λ fewest most. omega (arith, fewest, most))
+        asked line (record { verb = verbs.Serial; fewest = 1; most = 1; takes_heap = true }) task (rw serial at given) (λ fewest most. omega (arith, fewest, most))
     go false serial true run s step b show d work =
-        asked line (record { verb = verbs.Run; fewest = 1; most = 64 }) task (rw (serial, run) at given) (λ fewest most. (fewest, most))
+        asked line (record { verb = verbs.Run; fewest = 1; most = 64; takes_heap = true }) task (rw (serial, run) at given) (λ fewest most. (fewest, most))
     go false serial false run true step b show d work =
-        asked line (record { verb = verbs.Step; fewest = 2; most = 65 }) task (rw (serial, run, step) at given) (λ fewest most. (fewest, most))
+        asked line (record { verb = verbs.Step; fewest = 2; most = 65; takes_heap = true }) task (rw (serial, run, step) at given) (λ fewest most. (fewest, most))
     go false serial false run false step true show d work =
-        asked line (record { verb = verbs.Show; fewest = 0; most = 0 }) task (rw (serial, run, step, show) at given) (λ fewest most. omega (arith, most))
+        asked line (record { verb = verbs.Show; fewest = 0; most = 0; takes_heap = false }) task (rw (serial, run, step, show) at given) (λ fewest most. omega (arith, most))
     go false serial false run false step false show true work =
-        asked line (record { verb = verbs.Work; fewest = 2; most = 2 }) task (rw (serial, run, step, show, work) at given) (λ fewest most. omega (arith, fewest, most))
+        asked line (record { verb = verbs.Work; fewest = 2; most = 2; takes_heap = false }) task (rw (serial, run, step, show, work) at given) (λ fewest most. omega (arith, fewest, most))
     go false serial false run false step false show false work = let none : None ≡ Some task = rw (serial, run, step, show, work) at given in absurd (cc)
 
 -- what is asked of the command that the matches give

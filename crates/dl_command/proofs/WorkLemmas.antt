@@ -11,6 +11,7 @@ use Rattle.dl_ir.specs.declared.calls.Call.{Call}
 use Rattle.dl_ir.specs.declared.modules.Module.{Module}
 use Rattle.dl_ir.specs.Heap.{Objects}
 use Rattle.dl_core.specs.Heaps.{plain}
+use Rattle.dl_naming.specs.Naming.{SpelledHasNames}
 use Rattle.dl_schedule.specs.declared.give.Give.{Give}
 use Rattle.dl_trace.specs.Runs.{Run}
 use Rattle.dl_work.specs.declared.summaries.Figures.{Figures}
@@ -66,6 +67,7 @@ by_status before after (statuses.TooLong file) text prints = absurd prints
 by_status before after (statuses.ModuleFault line why) text prints = absurd prints
 by_status before after (statuses.OpsFault file line why) text prints = absurd prints
 by_status before after statuses.Memory text prints = absurd prints
+by_status before after (statuses.HeapFault line why) text prints = absurd prints
 
 -- the clauses of a call that finishes so
 module _ {asked : Asked} {places : ℕ} {before after : Taken} {status : Status} {history : Seen} {refusals : List Refusal} where
@@ -95,11 +97,11 @@ module _ {asked : Asked} {places : ℕ} {before after : Taken} {status : Status}
   ]
 
 -- a call keeps its promise by how it comes to its end
-pub comes_keeps : (wish : Option Wish) (old new : Source) (before after : Taken) (outcome : Outcome)
+pub comes_keeps : (wish : Option Wish) (old new : Source) (before after : Taken) (outcome : Outcome) → SpelledHasNames
     → Comes wish old new before after outcome.status outcome.history outcome.refusals → Keeps wish old new before after outcome
-comes_keeps None old new before after outcome comes = ends_keeps None old new before after outcome comes
-comes_keeps (Some (OverFiles task)) old new before after outcome comes = ends_keeps (Some task) old new before after outcome comes
-comes_keeps (Some (FromSeed asked places)) old new before after outcome comes = record {
+comes_keeps None old new before after outcome named comes = ends_keeps None old new before after outcome named comes
+comes_keeps (Some (OverFiles task)) old new before after outcome named comes = ends_keeps (Some task) old new before after outcome named comes
+comes_keeps (Some (FromSeed asked places)) old new before after outcome named comes = record {
   untouched = comes.0;
   done = work_done comes.1;
   write_fault = work_cut comes.1;

@@ -86,8 +86,8 @@ pub record Traces (source : Module) (heap : Objects) (gives : List Give) (all : 
   pub is_text : text ≡ end.text ++ report_of source heap all history.entries refusals
 
 -- what a command writes of what its files spell: `serial` and `run` the report of a run of the calls from the heap that is given, or
--- else the start heap; `step` the trace and the report of the scheduled run from it; and `show`, which carries out nothing, the canonical text of the tree and the listing of the
--- module's code. `work` reads no file, and has a promise of its own
+-- else from the start heap; `step` the trace and the report of the scheduled run from it; and `show`, which carries out nothing, the
+-- canonical text of the tree and the listing of the module's code. `work` reads no file, and has a promise of its own
 abbrev pub Writes : Verb → Input → ℕ → Seen → List Refusal → Text → Type 0
 Writes verbs.Serial input places history refusals text = Reports input.source (heap_of input) input.all.items places history refusals text
 Writes verbs.Run input places history refusals text = Reports input.source (heap_of input) input.all.items places history refusals text

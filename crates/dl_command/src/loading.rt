@@ -1,6 +1,6 @@
 //! Reading the files of a command: the module and what stands behind it, or why they are refused.
 
-ghost use Rattle.std.specs.Prelude.{◌≡◌, ◌<◌, ◌≤◌, map, All, IfOk, IfErr, OnOk, length};
+ghost use Rattle.std.specs.Prelude.{◌≡◌, ◌<◌, ◌≤◌, ℕ, map, All, IfOk, IfErr, OnOk, length};
 ghost use Rattle.dl_ir.specs.CallForms.{AreCallsOf};
 ghost use Rattle.dl_ir.specs.Checked.{IsChecked};
 ghost use Rattle.dl_ir.specs.declared.modules.Module.{Module as ModuleOf};
@@ -20,7 +20,7 @@ use crate::status::{HeapWhy, ModuleWhy, OpsWhy, Status};
 use crate::wanted::{Form, WantedFile, wanted_files};
 use crate::words::Command;
 use dl_grammar::{SyntaxFault, Tree, read_module};
-use dl_heapfile::{HeapFault, read_heap, what_is_read_is_spelt};
+use dl_heapfile::{HeapFault, read_heap};
 use dl_io::Files;
 use dl_ir::{Calls, Heap, Module};
 use dl_naming::spelled_has_names;
@@ -80,8 +80,10 @@ fn parse_module(alloc: Global, text: &[u8]) -> Result<Parsed, Status>
     ensures spelled { IfOk result (λ parsed. SpellsTree text.now parsed.tree) }
     ensures typed { IfOk result (λ parsed. Types parsed.tree parsed.source) }
     ensures checked { IfOk result (λ parsed. IsChecked parsed.source) }
+    ensures names { IfOk result (λ parsed. HasNames parsed.source) }
     ensures cause { IfErr result (ParseCause text.now) }
 {
+    spelled_has_names();
     let tree = match read_module(alloc, text) {
         Ok(tree) => tree,
         Err(fault) => return Err(status_of_syntax(fault)),
@@ -227,6 +229,7 @@ fn parse(
 fn read_source<F: Files>(alloc: Global, files: &mut F, path: &str) -> Result<Parsed, Status>
     ensures ok { IfOk result (λ parsed. IsModuleFile (F.source files.old) path.now parsed.tree parsed.source) }
     ensures checked { IfOk result (λ parsed. IsChecked parsed.source) }
+    ensures names { IfOk result (λ parsed. HasNames parsed.source) }
     ensures within { OnOk result (IsWithin (F.source files.new)) }
     ensures cause { IfErr result (NoModule path.now (F.source files.old) (F.source files.new)) }
     ensures after { AfterReading (F.source files.old) (F.source files.new) }

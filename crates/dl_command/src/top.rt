@@ -26,6 +26,7 @@ use dl_instr::instrument;
 use dl_io::{Files, Sink};
 use dl_ir::Refusal;
 use dl_machine::Gate;
+use dl_naming::spelled_has_names;
 use sqlite_items::Items;
 use std::alloc::Global;
 use std::sync::Wait;
@@ -273,6 +274,7 @@ pub fn domlock_still<F: Files, K: Sink>(
 ) -> Outcome
     ensures { Keeps (still_wish_of_words words.now) (F.source files.old) (F.source files.new) (K.taken out.old) (K.taken out.new) result }
 {
+    spelled_has_names();
     run_still(alloc, words, files, out)
 }
 
@@ -287,6 +289,7 @@ fn domlock_over<R: Threads + Wait + Sync, G: Ground, F: Files, K: Sink, T: Gate>
 ) -> Outcome
     ensures { Keeps (wish_of_words words.now) (F.source files.old) (F.source files.new) (K.taken out.old) (K.taken out.new) result }
 {
+    spelled_has_names();
     let command = match command_of(alloc, words) {
         Ok(command) => command,
         Err(fault) => return nothing(alloc, fault.status()),

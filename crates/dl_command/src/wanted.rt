@@ -74,7 +74,7 @@ fn add_heap<'a>(
     places: u32,
     heap: Option<&'a str>,
 ) -> Result<(), AllocError>
-    ensures { OnOk result (map wanted_held wanted.new.items ≡ map wanted_held wanted.old.items ++ spec.heap_file places (option_map (λ path. path.now) heap)) }
+    ensures { OnOk result (map wanted_held wanted.new.items ≡ map wanted_held wanted.old.items ++ spec.heap_file places (option_map (λ path. path.now) heap.entry)) }
 {
     if let Some(path) = heap {
         wanted.push(WantedFile {

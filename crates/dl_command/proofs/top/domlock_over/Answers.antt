@@ -7,12 +7,12 @@ use Rattle.dl_command.proofs.top.domlock_over.Goals as goal
 
 pub returns-in-Err : goal.returns-in-Err
 returns-in-Err g c = let n = c.nothing.ensures in
-    comes_keeps (wish_of_words c.args.words.now) _ _ _ _ c.nothing.result
+    comes_keeps (wish_of_words c.args.words.now) _ _ _ _ c.nothing.result c.spelled_has_names.ensures
     (comes_without_command _ _ _ _ _ _ c.in-Err.fault (n.status ∙ c.status.ensures) (λ is. ap wish_of (c.in-Err.ensures.usage (ap (λ fault. Err fault) is))) n.history n.refusals)
 
 pub returns-in-Run : goal.returns-in-Run
 returns-in-Run g c =
-    comes_keeps (wish_of_words c.args.words.now) _ _ _ _ c.run_command.result
+    comes_keeps (wish_of_words c.args.words.now) _ _ _ _ c.run_command.result c.spelled_has_names.ensures
     (rw (wish_is c.args.words.now (task_of c.in-Ok.command) verbs.Run c.in-Ok.ensures.ok c.in-Run.is) c.run_command.ensures)
 
 pub returns-in-Serial : goal.returns-in-Serial

@@ -11,7 +11,7 @@ use Rattle.dl_command.proofs.top.serial_command.Goals as goal
 pub serial-requires-clause-one : goal.serial-requires-clause-one
 serial-requires-clause-one g c =
     let behind = rw c.requires.verb at c.in-Ok.ensures.spells.behind in
-    (operations_behind _ _ _ _ behind).all ∙ (length-map c.args.command.now.rest.items (λ path. path.now) ∙ c.requires.rest)
+    (operations_behind _ _ _ _ _ _ behind).all ∙ (length-map c.args.command.now.rest.items (λ path. path.now) ∙ c.requires.rest)
 
 pub returns-in-Ok : goal.returns-in-Ok
 returns-in-Ok g c = ends_finished (task_of c.args.command.now) refl c.in-Ok.ensures.spells c.in-Ok.ensures.within (rw c.requires.verb c.serial.ensures)

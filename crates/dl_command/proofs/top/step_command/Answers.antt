@@ -12,21 +12,21 @@ pub step-requires-clause-some : goal.step-requires-clause-some
 step-requires-clause-some g c =
     let texts = length-map c.args.command.now.rest.items (λ path. path.now) in
     let behind = rw c.requires.verb at c.in-Ok.ensures.spells.behind in
-    let counts = step_counts _ _ _ _ (omega (arith, texts, c.requires.rest.0)) behind in
+    let counts = step_counts _ _ _ _ _ _ (omega (arith, texts, c.requires.rest.0)) behind in
     omega (arith, texts, c.requires.rest.0, counts.1, counts.2.all)
 
 pub step-requires-clause-few : goal.step-requires-clause-few
 step-requires-clause-few g c =
     let texts = length-map c.args.command.now.rest.items (λ path. path.now) in
     let behind = rw c.requires.verb at c.in-Ok.ensures.spells.behind in
-    let counts = step_counts _ _ _ _ (omega (arith, texts, c.requires.rest.0)) behind in
+    let counts = step_counts _ _ _ _ _ _ (omega (arith, texts, c.requires.rest.0)) behind in
     omega (arith, texts, c.requires.rest.1, counts.1, counts.2.all)
 
 pub step-requires-clause-callers : goal.step-requires-clause-callers
 step-requires-clause-callers g c =
     let texts = length-map c.args.command.now.rest.items (λ path. path.now) in
     let behind = rw c.requires.verb at c.in-Ok.ensures.spells.behind in
-    let counts = step_counts _ _ _ _ (omega (arith, texts, c.requires.rest.0)) behind in
+    let counts = step_counts _ _ _ _ _ _ (omega (arith, texts, c.requires.rest.0)) behind in
     subst (λ n. All (IsGiveOf n) c.in-Ok.input.schedule) (sym counts.2.all) counts.2.gives
 
 pub returns-in-Ok : goal.returns-in-Ok

@@ -35,5 +35,6 @@ returns-in-Ok-clause-ok c =
     number_read _ _ c.get_one.ensures.none
     (λ t e. read_number (λ bs r. ParsesUnsigned 32 10 bs r × ExplainsUnsignedError 10 bs r × HasUnsignedDigitsIfOk bs r) t _ (c.get_one.ensures.value t e) (λ u x g. g.0))
     ∙ ap (option_and_then number_of) (one_text-rows f (codes "places")) in
-    line_given (rows_of f) _ _ _ _ (sym (first_value-rows f (codes "COMMAND")) ∙ sym c.in-Some.ensures)
+    line_given (rows_of f) _ _ _ _ _ (sym (first_value-rows f (codes "COMMAND")) ∙ sym c.in-Some.ensures)
     (sym (first_value-rows f (codes "FIRST")) ∙ sym c.in-Some-get_str.ensures) (sym number ∙ c.in-Some-get_one.is) c.in-Ok.ensures
+    (c.get_str-heap.ensures ∙ first_value-rows f (codes "heap"))
