@@ -10,10 +10,10 @@ parse_heap-requires-clause-short c =
     let number = subst (λ form. IsNumberOf form c.args.file) c.in-Heap.is c.requires.fits in
     subst (λ n. length c.args.text.now ≤ limit_of n) number c.requires.short
 
-pub parse_schedule-requires : goal.parse_schedule-requires-clause-short
+pub parse_schedule-requires : goal.parse_schedule-requires
 parse_schedule-requires c =
     let number = subst (λ form. IsNumberOf form c.args.file) c.in-Schedule.is c.requires.fits in
-    subst (λ n. length c.args.text.now ≤ n) (plain_limit c.args.file number) c.requires.short
+    record { short = subst (λ n. length c.args.text.now ≤ n) (plain_limit c.args.file number) c.requires.short }
 
 pub parse_calls-requires-clause-short : goal.parse_calls-requires-clause-short
 parse_calls-requires-clause-short c =
