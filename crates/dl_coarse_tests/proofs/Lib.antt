@@ -1,3 +1,4 @@
 -- The lemmas of this crate.
 pub mod Serving
 pub mod Opening
+pub mod Sent
