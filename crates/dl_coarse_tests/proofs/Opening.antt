@@ -10,20 +10,20 @@ use Rattle.dl_instr.specs.Drops.{IsCodeOf}
 use Rattle.dl_core.specs.Closing.{AreFresh, AreIdle}
 use Rattle.dl_core.specs.Passes.{PassView, IsIdle, fresh_pass}
 use Rattle.dl_core.specs.Plans.{Plan, IsPlan, size_of, source_of}
-use Rattle.dl_coarse_tests.specs.declared.meetings.Files.{Files}
+use Rattle.dl_ir.specs.declared.calls.Call.{Call}
 use Rattle.dl_coarse_tests.specs.Meetings.{AreOpened, IsReadyFor, IsRested, MayMeet, plan_for, sizes_of}
 
-module _ (code : Code) (files : Files) (may : MayMeet code files) where
+module _ (code : Code) (calls others : List Call) (may : MayMeet code calls others) where
   back : may.source ≡ code.source
   back = sym may.of.same_source
 
-  few : (k d : ℕ) → k < 2 → get_or (sizes_of files) k d ≤ 65536
-  few zero d within = may.first.short
-  few (suc zero) d within = may.second.short
+  few : (k d : ℕ) → k < 2 → get_or (sizes_of calls others) k d ≤ 65536
+  few zero d within = may.calls.short
+  few (suc zero) d within = may.others.short
   few (suc (suc k)) d within = absurd (omega arith)
 
   -- a run of the files has a plan
-  pub starts_plan : IsPlan (plan_for code files)
+  pub starts_plan : IsPlan (plan_for code calls others)
   starts_plan =
       let some : 0 < 2 = omega arith in
       let not_many : 2 ≤ 64 = omega arith in
@@ -38,32 +38,32 @@ module _ (code : Code) (files : Files) (may : MayMeet code files) where
         few_places = low;
       }
 
-  first_ready : IsReadyFor (plan_for code files) files.first.now (fresh_pass (plan_for code files) 1)
+  first_ready : IsReadyFor (plan_for code calls others) calls (fresh_pass (plan_for code calls others) 1)
   first_ready =
-      let room : 0 + length files.first.now ≤ length files.first.now = omega arith in
-      record { idle = record { stage = refl; unreserved = refl }; room = room; fits = subst (λ (of : Module). All (IsCallOf of) files.first.now) back may.first.each }
+      let room : 0 + length calls ≤ length calls = omega arith in
+      record { idle = record { stage = refl; unreserved = refl }; room = room; fits = subst (λ (of : Module). All (IsCallOf of) calls) back may.calls.each }
 
-  second_ready : IsReadyFor (plan_for code files) files.second.now (fresh_pass (plan_for code files) 2)
+  second_ready : IsReadyFor (plan_for code calls others) others (fresh_pass (plan_for code calls others) 2)
   second_ready =
-      let room : 0 + length files.second.now ≤ length files.second.now = omega arith in
-      record { idle = record { stage = refl; unreserved = refl }; room = room; fits = subst (λ (of : Module). All (IsCallOf of) files.second.now) back may.second.each }
+      let room : 0 + length others ≤ length others = omega arith in
+      record { idle = record { stage = refl; unreserved = refl }; room = room; fits = subst (λ (of : Module). All (IsCallOf of) others) back may.others.each }
 
-module _ {P : Type 0} (plan : Plan) (is_of : P → Type 0) (view : P → PassView) (code : Code) (files : Files) where
+module _ {P : Type 0} (plan : Plan) (is_of : P → Type 0) (view : P → PassView) (code : Code) (calls others : List Call) where
   -- two fresh passes that are all there are
-  pub are_opened : (passes : List P) (one other : P) → plan ≡ plan_for code files → AreFresh plan is_of view passes → passes ≡ one ∷ other ∷ [] → AreOpened plan is_of view code files one other
+  pub are_opened : (passes : List P) (one other : P) → plan ≡ plan_for code calls others → AreFresh plan is_of view passes → passes ≡ one ∷ other ∷ [] → AreOpened plan is_of view code calls others one other
   are_opened passes one other same fresh two =
       let of_one = fresh.each 0 one (ap (λ (all : List P). slice_get all 0) two) in
       let of_other = fresh.each 1 other (ap (λ (all : List P). slice_get all 1) two) in
       record { plan_is = same; of = (of_one.0, of_other.0); first = of_one.1; second = of_other.1 }
 
-  module _ (may : MayMeet code files) (one other : P) (opened : AreOpened plan is_of view code files one other) where
-    pub one_ready : IsReadyFor plan files.first.now (view one)
-    one_ready = subst (IsReadyFor plan files.first.now) (sym opened.first)
-        (subst (λ (plan : Plan). IsReadyFor plan files.first.now (fresh_pass plan 1)) (sym opened.plan_is) (first_ready code files may))
+  module _ (may : MayMeet code calls others) (one other : P) (opened : AreOpened plan is_of view code calls others one other) where
+    pub one_ready : IsReadyFor plan calls (view one)
+    one_ready = subst (IsReadyFor plan calls) (sym opened.first)
+        (subst (λ (plan : Plan). IsReadyFor plan calls (fresh_pass plan 1)) (sym opened.plan_is) (first_ready code calls others may))
 
-    pub other_ready : IsReadyFor plan files.second.now (view other)
-    other_ready = subst (IsReadyFor plan files.second.now) (sym opened.second)
-        (subst (λ (plan : Plan). IsReadyFor plan files.second.now (fresh_pass plan 2)) (sym opened.plan_is) (second_ready code files may))
+    pub other_ready : IsReadyFor plan others (view other)
+    other_ready = subst (IsReadyFor plan others) (sym opened.second)
+        (subst (λ (plan : Plan). IsReadyFor plan others (fresh_pass plan 2)) (sym opened.plan_is) (second_ready code calls others may))
 
     module _ (a b : P) (of_a : is_of a) (of_b : is_of b) (rested_a : IsRested (view one) (view a)) (rested_b : IsRested (view other) (view b)) where
       at_each : (at : ℕ) (pass : P) → slice_get (a ∷ b ∷ []) at ≡ Some pass → is_of pass × IsIdle (view pass) × ((view pass).caller ≡ at + 1)

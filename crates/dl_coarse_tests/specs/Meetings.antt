@@ -9,8 +9,6 @@ use Rattle.dl_instr.specs.declared.code.Code.{Code}
 use Rattle.dl_instr.specs.Drops.{IsCodeOf}
 use Rattle.dl_core.specs.Passes.{PassView, IsIdle, fresh_pass, first_plan}
 use Rattle.dl_core.specs.Plans.{Plan, source_of, size_of}
-use Rattle.dl_coarse_tests.specs.declared.meetings.Files.{Files}
-use Rattle.dl_coarse_tests.specs.declared.meetings.Meeting.{Meeting}
 
 -- the same caller's pass, with no call in hand, and it has forgotten no ticket
 pub record IsRested (before after : PassView) : Type 0 where
@@ -37,29 +35,29 @@ pub record HasServed (before : PassView) (entries : List Entry) (after : PassVie
   pub drawn : All (λ (entry : Entry). before.front < entry.ticket) entries
   pub kept : All (λ (entry : Entry). entry.ticket ≤ after.front) entries
 
--- what the second pass drew when it had learnt of the first is above all that the first drew before
-pub record IsFresh (meeting : Meeting) : Type 0 where
-  pub told : All (λ (entry : Entry). entry.ticket ≤ meeting.fronts.first) meeting.first.items
-  pub drawn : All (λ (entry : Entry). meeting.fronts.first < entry.ticket) meeting.second.items
+-- the first of these drew no ticket above this front, and the second drew none that is not above it
+pub record IsFresh (front : ℕ) (first second : List Entry) : Type 0 where
+  pub told : All (λ (entry : Entry). entry.ticket ≤ front) first
+  pub drawn : All (λ (entry : Entry). front < entry.ticket) second
 
--- the code is one of a module, and the files have calls of that module
-pub record MayMeet (code : Code) (files : Files) : Type 0 where
+-- the code is one of a module, and both files have calls of that module
+pub record MayMeet (code : Code) (first second : List Call) : Type 0 where
   pub source : Module
   pub checked : IsChecked source
   pub of : IsCodeOf source code
-  pub first : AreCallsOf source files.first.now
-  pub second : AreCallsOf source files.second.now
+  pub calls : AreCallsOf source first
+  pub others : AreCallsOf source second
 
-abbrev pub sizes_of : Files → List ℕ
-sizes_of files = length files.first.now ∷ length files.second.now ∷ []
+abbrev pub sizes_of : List Call → List Call → List ℕ
+sizes_of first second = length first ∷ length second ∷ []
 
-abbrev pub plan_for : Code → Files → Plan
-plan_for code files = first_plan code 4096 (sizes_of files)
+abbrev pub plan_for : Code → List Call → List Call → Plan
+plan_for code first second = first_plan code 4096 (sizes_of first second)
 
 module _ {Pass : Type 0} (plan : Plan) (is_of : Pass → Type 0) (view : Pass → PassView) where
-  -- the plan is that of a run of the files, and two passes of it are fresh
-  pub record AreOpened (code : Code) (files : Files) (one other : Pass) : Type 0 where
-    pub plan_is : plan ≡ plan_for code files
+  -- the plan is that of a run of the two files, and two passes of it are fresh
+  pub record AreOpened (code : Code) (calls others : List Call) (one other : Pass) : Type 0 where
+    pub plan_is : plan ≡ plan_for code calls others
     pub of : is_of one × is_of other
     pub first : view one ≡ fresh_pass plan 1
     pub second : view other ≡ fresh_pass plan 2

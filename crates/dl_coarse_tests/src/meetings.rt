@@ -104,7 +104,7 @@ fn meet<G: Ground>(
     requires second { IsReadyFor (G.plan ground.now) files.second.now (G.view second.old) }
     ensures of { G.is_of ground.now first.new × G.is_of ground.now second.new }
     ensures rested { IfOk result (λ meeting. IsRested (G.view first.old) (G.view first.new) × IsRested (G.view second.old) (G.view second.new)) }
-    ensures fresh { IfOk result (λ meeting. IsFresh meeting) }
+    ensures fresh { IfOk result (λ meeting. IsFresh meeting.fronts.first meeting.first.items meeting.second.items) }
 {
     let before = serve_all(alloc, ground, first, files.first)?;
     let first_front = ground.front(first);
@@ -137,8 +137,8 @@ fn open<G: Ground + Drop>(
     code: Code,
     files: Files<'_>,
 ) -> Result<(G, G::Pass, G::Pass), Fail>
-    requires may { MayMeet code files }
-    ensures { IfOk result (λ opened. AreOpened (G.plan opened.0) (G.is_of opened.0) G.view code files.entry opened.1 opened.2) }
+    requires may { MayMeet code files.first.now files.second.now }
+    ensures { IfOk result (λ opened. AreOpened (G.plan opened.0) (G.is_of opened.0) G.view code files.entry.first.now files.entry.second.now opened.1 opened.2) }
 {
     let sizes = [files.first.len() as u32, files.second.len() as u32];
     let (ground, passes) = G::start(alloc, code, PLACES, &sizes)?;
@@ -177,8 +177,8 @@ pub fn meet_on<G: Ground + Drop>(
     code: Code,
     files: Files<'_>,
 ) -> Result<(Meeting, Closed), Fail>
-    requires may { MayMeet code files }
-    ensures fresh { IfOk result (λ met. IsFresh met.0) }
+    requires may { MayMeet code files.first.now files.second.now }
+    ensures fresh { IfOk result (λ met. IsFresh met.0.fronts.first met.0.first.items met.0.second.items) }
 {
     let (ground, first, second) = open::<G>(alloc, code, files)?;
     let (mut first, mut second) = (first, second);
