@@ -8,6 +8,7 @@ ghost use Rattle.dl_ir.specs.Checked.{IsChecked};
 use dl_grammar::read_module;
 use dl_instr::{Code, codes_of_modules, instrument};
 use dl_ir::{Calls, Module};
+use dl_live::{drops_are_code, early_drops};
 use dl_syntax::read_calls;
 use dl_types::check;
 use std::alloc::Global;
@@ -57,4 +58,15 @@ pub fn plain(alloc: Global, source: &Module) -> Result<Code, Fail>
     codes_of_modules();
     let code = instrument(alloc, source)?;
     Ok(code)
+}
+
+/// The code of a module with early drops.
+pub fn dropped(alloc: Global, source: &Module) -> Result<Code, Fail>
+    ensures { IfOk result (IsCodeOf source.now) }
+{
+    drops_are_code();
+    match early_drops(alloc, source, plain(alloc, source)?) {
+        Ok(made) => Ok(made),
+        Err((_, error)) => Err(Fail::from(error)),
+    }
 }

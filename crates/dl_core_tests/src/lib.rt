@@ -2,6 +2,8 @@
 #![tactic(auto)]
 
 #[cfg(test)]
+mod drops;
+#[cfg(test)]
 mod inputs;
 #[cfg(test)]
 mod objects;

@@ -12,8 +12,8 @@ use crate::told::{Told, in_full, name};
 use dl_modules::{LISTS, SKEW};
 use std::test::Fail;
 
-// Gives the callers steps, and counts those before the first that answers otherwise.
-fn followed(run: &mut Run<'_>, table: &[(u32, Told)]) -> usize {
+/// Gives the callers steps, and counts those before the first that answers otherwise.
+pub fn followed(run: &mut Run<'_>, table: &[(u32, Told)]) -> usize {
     for (at, (caller, told)) in table.iter().enumerate() {
         if run.give(*caller) != Some(in_full(*caller, *told)) {
             return at;
