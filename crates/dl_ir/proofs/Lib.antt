@@ -1,5 +1,6 @@
 mod Edits
 mod SortedEntries
+mod Falling
 mod Filing
 pub mod Keeping
 pub mod Lookups

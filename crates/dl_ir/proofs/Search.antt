@@ -21,7 +21,7 @@ below_each {X} x (e ∷ es) zero d below within = is_less _ (first_of_both _ _ b
 below_each {X} x (e ∷ es) (suc at) d below within = below_each x es at d (second_of_both _ _ below) (omega arith)
 
 -- earlier names are lesser
-earlier : {X : Type 0} → (es : Held X) (i j : ℕ) (d : Name × X) → T (is_sorted name_cmp es) → i < j → j < length es → name_cmp (get_or es i d).0 (get_or es j d).0 ≡ Less
+pub earlier : {X : Type 0} → (es : Held X) (i j : ℕ) (d : Name × X) → T (is_sorted name_cmp es) → i < j → j < length es → name_cmp (get_or es i d).0 (get_or es j d).0 ≡ Less
 earlier {X} [] i j d sorted before within = absurd (omega arith)
 earlier {X} (e ∷ es) i zero d sorted before within = absurd (omega arith)
 earlier {X} (e ∷ es) zero (suc j) d sorted before within = below_each e.0 es j d (first_of_both _ _ sorted) (omega arith)
@@ -32,7 +32,7 @@ at_most_two Less = omega arith
 at_most_two Equal = omega arith
 at_most_two Greater = omega arith
 
-rises : (x y k : Name) → name_cmp x y ≡ Less → ordering_index (name_cmp x k) ≤ ordering_index (name_cmp y k)
+pub rises : (x y k : Name) → name_cmp x y ≡ Less → ordering_index (name_cmp x k) ≤ ordering_index (name_cmp y k)
 rises x y k less =
     elim (name_cmp y k) as (λ r. name_cmp y k ≡ r → ordering_index (name_cmp x k) ≤ ordering_index r) [
       | Less ↦ λ is. subst (λ r. ordering_index r ≤ 0) (sym (names_total.trans x y k less is)) (omega arith)
@@ -71,7 +71,7 @@ gap_above {X} k (e ∷ es) d sorted some last =
     above k e es d sorted (subst (λ i. name_cmp (get_or (e ∷ es) i d).0 k ≡ Less) at last)
 
 -- where those before are less and those behind greater there is a gap
-is_gap : {X : Type 0} → (k : Name) (es : Held X) (at : ℕ) → at ≤ length es → IsPartitionPoint (λ (e : Name × X). name_cmp e.0 k ≡ Less) (λ (e : Name × X). name_cmp e.0 k ≡ Greater) es at → IsGap k es at
+pub is_gap : {X : Type 0} → (k : Name) (es : Held X) (at : ℕ) → at ≤ length es → IsPartitionPoint (λ (e : Name × X). name_cmp e.0 k ≡ Less) (λ (e : Name × X). name_cmp e.0 k ≡ Greater) es at → IsGap k es at
 is_gap {X} k [] zero within parted = tt
 is_gap {X} k [] (suc at) within parted = absurd (omega arith)
 is_gap {X} k (e ∷ es) zero within parted = parted.1 zero e (omega arith) (omega arith)

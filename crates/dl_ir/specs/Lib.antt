@@ -5,6 +5,7 @@ pub mod Codes
 pub mod Cover
 pub mod Evaluation
 pub mod Heap
+pub mod Marks
 pub mod Meaning
 pub mod Padding
 pub mod Places

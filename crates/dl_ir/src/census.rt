@@ -8,6 +8,7 @@ ghost use Rattle.dl_ir.specs.Heap.{name_cmp};
 ghost use Rattle.dl_ir.specs.References.{refers_to, target_in};
 ghost use Rattle.dl_ir.specs.declared.names.Name.{Name};
 
+use crate::marks::Marks;
 use crate::names::{Name, Value};
 use crate::objects::Obj;
 use crate::tables::Table;
@@ -19,8 +20,8 @@ use std::alloc::{AllocError, Global};
 pub struct Census {
     pub objects: Table<Obj>,
     pub counts: Table<u64>,
-    pub loose: Table<()>,
-    pub shared: Table<()>,
+    pub loose: Marks,
+    pub shared: Marks,
 }
 
 impl Census {
@@ -33,8 +34,8 @@ impl Census {
         Ok(Census {
             objects: Table::new(alloc, room)?,
             counts: Table::new(alloc, room)?,
-            loose: Table::new_for_few(alloc, room)?,
-            shared: Table::new_for_few(alloc, room)?,
+            loose: Marks::new(alloc, room)?,
+            shared: Marks::new(alloc, room)?,
         })
     }
 
@@ -180,19 +181,19 @@ fn is_open(objects: &Table<Obj>, name: Name) -> bool
 }
 
 // Puts a name among others where it is of an open object that fits, or else takes it away.
-fn mark(names: &mut Table<()>, name: Name, is_open: bool, fits: bool)
+fn mark(names: &mut Marks, name: Name, is_open: bool, fits: bool)
     requires { map.get names.old.rows name ≡ None → map.len names.old.rows < names.old.room }
     ensures { names.new ≡ record names.old { rows = marked (is_open && fits) names.old.rows name } }
 {
     if is_open && fits {
-        names.put(name, ());
+        names.put(name);
     } else {
         names.remove(name);
     }
 }
 
 // Marks a name where what is told of its count changes.
-fn remark(names: &mut Table<()>, objects: &Table<Obj>, name: Name, fitted: bool, fits: bool)
+fn remark(names: &mut Marks, objects: &Table<Obj>, name: Name, fitted: bool, fits: bool)
     requires before { map.contains_key names.old.rows name ≡ (open_at name (map.get objects.now.rows name) && fitted) }
     requires room { map.get names.old.rows name ≡ None → map.len names.old.rows < names.old.room }
     ensures here { map.contains_key names.new.rows name ≡ (open_at name (map.get objects.now.rows name) && fits) }

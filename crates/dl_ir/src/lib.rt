@@ -11,6 +11,7 @@ mod expressions;
 mod heaps;
 mod hints;
 mod iterators;
+mod marks;
 mod modules;
 mod moves;
 mod names;

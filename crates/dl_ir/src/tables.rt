@@ -53,22 +53,6 @@ impl<V> Table<V> {
         ensures { IfOk result (λ t. t ≡ record { rows = map.empty; room = room }) }
     {
         let hints = Hints::new(alloc, room.saturating_mul(2))?;
-        Table::with_hints(alloc, room, hints)
-    }
-
-    /// An empty table with memory for so many values, of which few are there at a time, so that nothing is remembered of
-    /// their places.
-    pub(crate) fn new_for_few(alloc: Global, room: usize) -> Result<Table<V>, AllocError>
-        ensures { IfOk result (λ t. t ≡ record { rows = map.empty; room = room }) }
-    {
-        let hints = Hints::new(alloc, 1)?;
-        Table::with_hints(alloc, room, hints)
-    }
-
-    // An empty table with memory for so many values.
-    fn with_hints(alloc: Global, room: usize, hints: Hints) -> Result<Table<V>, AllocError>
-        ensures { IfOk result (λ t. t ≡ record { rows = map.empty; room = room }) }
-    {
         let Some(memory) = room.checked_mul(2) else {
             return Err(AllocError);
         };
