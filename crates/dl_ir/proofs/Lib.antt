@@ -3,6 +3,8 @@ mod SortedEntries
 mod Filing
 pub mod Keeping
 pub mod Lookups
+mod CountedEdits
+mod Mapped
 pub mod Members
 pub mod NameOrder
 mod Padding
