@@ -13,17 +13,18 @@ use Rattle.dl_ir.specs.declared.names.Name.{Name}
 use Rattle.dl_ir.specs.declared.names.Value.{Value}
 use Rattle.dl_ir.specs.declared.names.Value.TheVariants.{Int, Ref}
 use Rattle.dl_ir.specs.declared.objects.Obj.{Obj}
-use Rattle.dl_ir.specs.declared.census.Census.{Census}
+use Rattle.dl_ir.specs.Counted.{Counted}
 use Rattle.dl_ir.specs.Heap.{Objects, name_cmp}
 use Rattle.dl_ir.specs.References.{name_eq, refers_to, target_in}
 use Rattle.dl_ir.specs.Census.{open_at, is_none, is_many, IsFiledAt, IsFiled, IsFiledBut, marked, with_count, Changes, AreThere}
 use Rattle.dl_ir.specs.Rows.{Rows}
 use Rattle.dl_ir.proofs.NameOrder.{names_total, exact_names, name_eq_itself}
 use Rattle.dl_ir.proofs.Lookups.{same_or_not, got_put, got_beside, gone, got_left, has_marked, has_beside}
+use Rattle.dl_ir.proofs.Present.{rows_gap, is_none as is_none_of}
 use Rattle.dl_ir.proofs.Subsets.{room_for}
 
 -- the census with this count of a name, which is filed by these tests
-abbrev pub after : Census → Name → ℕ → Bool → Bool → Census
+abbrev pub after : Counted → Name → ℕ → Bool → Bool → Counted
 after c k count loose shared = record {
   objects = c.objects;
   counts = record c.counts { rows = map.insert c.counts.rows k count };
@@ -39,7 +40,7 @@ open_there n None b is = is
 open_there n (Some o) b is = refl
 
 -- what is filed but for a name is filed once that is
-pub filed : (c : Census) (k : Name) (count : ℕ) → IsFiledBut k c → map.contains_key c.objects.rows k ≡ true
+pub filed : (c : Counted) (k : Name) (count : ℕ) → IsFiledBut k c → map.contains_key c.objects.rows k ≡ true
     → IsFiled (after c k count (open_at k (map.get c.objects.rows k) && (count == 0)) (open_at k (map.get c.objects.rows k) && nat_le 2 count))
 filed c k count but there =
     let loose = open_at k (map.get c.objects.rows k) && (count == 0) in
@@ -65,11 +66,11 @@ filed c k count but there =
     }
 
 -- where it is filed, it is so but for any name
-pub but_any : (c : Census) (k : Name) → IsFiled c → IsFiledBut k c
+pub but_any : (c : Counted) (k : Name) → IsFiled c → IsFiledBut k c
 but_any c k is = record { each = λ n other. is.each n; rooms = is.rooms }
 
 -- what has a count that was written is there
-pub counted_there : (c : Census) (k : Name) (count : ℕ) → IsFiled (with_count k count c) → map.contains_key c.objects.rows k ≡ true
+pub counted_there : (c : Counted) (k : Name) (count : ℕ) → IsFiled (with_count k count c) → map.contains_key c.objects.rows k ≡ true
 counted_there c k count is = sym (is.each k).counted ∙ ap is_some (got_put c.counts.rows k count)
 
 -- a count that is written back is as it was
@@ -79,18 +80,18 @@ put_again m k a b is = same_map names_total exact_names _ _ (λ q. elim (same_or
   | inr other ↦ got_beside (map.insert m k a) k b q other ∙ got_beside m k a q other
 ])
 
-pub recounted : (c : Census) (k : Name) (now before : ℕ) → IsFiled c → map.get c.counts.rows k ≡ Some before → IsFiled (with_count k before (with_count k now c))
+pub recounted : (c : Counted) (k : Name) (now before : ℕ) → IsFiled c → map.get c.counts.rows k ≡ Some before → IsFiled (with_count k before (with_count k now c))
 recounted c k now before filed is = subst (λ m. IsFiled (record c { counts = record c.counts { rows = m } })) (sym (put_again c.counts.rows k now before is)) filed
 
 -- what is filed by the count before is filed by the count now once the name is marked by that
-pub refiled_as : (c : Census) (k : Name) (before count : ℕ) (loose shared : Rows (Unit {0})) → IsFiled (with_count k before c) → map.get c.counts.rows k ≡ Some count
+pub refiled_as : (c : Counted) (k : Name) (before count : ℕ) (loose shared : Rows (Unit {0})) → IsFiled (with_count k before c) → map.get c.counts.rows k ≡ Some count
     → map.contains_key loose.rows k ≡ (open_at k (map.get c.objects.rows k) && (count == 0))
     → ((n : Name) → eq_by_cmp name_cmp n k ≡ false → map.contains_key loose.rows n ≡ map.contains_key c.loose.rows n) → loose.room ≡ c.loose.room
     → map.contains_key shared.rows k ≡ (open_at k (map.get c.objects.rows k) && nat_le 2 count)
     → ((n : Name) → eq_by_cmp name_cmp n k ≡ false → map.contains_key shared.rows n ≡ map.contains_key c.shared.rows n) → shared.room ≡ c.shared.room
     → IsFiled (record { objects = c.objects; counts = c.counts; loose = loose; shared = shared })
 refiled_as c k before count loose shared filed now loose_here loose_beside loose_same shared_here shared_beside shared_same =
-    let new : Census = record { objects = c.objects; counts = c.counts; loose = loose; shared = shared } in
+    let new : Counted = record { objects = c.objects; counts = c.counts; loose = loose; shared = shared } in
     let here : IsFiledAt new k = record {
       counted = ap is_some now ∙ sym (counted_there c k before filed);
       loose = loose_here ∙ ap (λ o. open_at k (map.get c.objects.rows k) && is_none o) (sym now);
@@ -111,7 +112,7 @@ refiled_as c k before count loose shared filed now loose_here loose_beside loose
       rooms = record { within = filed.rooms.within; counts = filed.rooms.counts; loose = loose_same ∙ filed.rooms.loose; shared = shared_same ∙ filed.rooms.shared };
     }
 
-module _ (c : Census) (k : Name) (but : IsFiledBut k c) (there : map.contains_key c.objects.rows k ≡ true) where
+module _ (c : Counted) (k : Name) (but : IsFiledBut k c) (there : map.contains_key c.objects.rows k ≡ true) where
   within : {X : Type 0} (few : FinMap name_cmp X) → ((n : Name) → eq_by_cmp name_cmp n k ≡ false → map.contains_key few n ≡ true → map.contains_key c.objects.rows n ≡ true)
       → (n : Name) → map.contains_key few n ≡ true → map.contains_key c.objects.rows n ≡ true
   within few others n is = elim (same_or_not n k) [
@@ -120,11 +121,6 @@ module _ (c : Census) (k : Name) (but : IsFiledBut k c) (there : map.contains_ke
   ]
 
   -- there is room for the name in each table
-  pub count_room : map.get c.counts.rows k ≡ None → map.len c.counts.rows < c.counts.room
-  count_room none =
-      let less = room_for c.counts.rows c.objects.rows k 0 (within c.counts.rows (λ n other is. sym (but.each n other).counted ∙ is)) there none in
-      omega (arith, less, but.rooms.within, but.rooms.counts)
-
   pub loose_room : map.get c.loose.rows k ≡ None → map.len c.loose.rows < c.loose.room
   loose_room none =
       let less = room_for c.loose.rows c.objects.rows k tt (within c.loose.rows (λ n other is. open_there n _ _ (sym (but.each n other).loose ∙ is))) there none in
@@ -136,7 +132,7 @@ module _ (c : Census) (k : Name) (but : IsFiledBut k c) (there : map.contains_ke
       omega (arith, less, but.rooms.within, but.rooms.shared)
 
 -- the census without a name
-abbrev pub left : Census → Name → Census
+abbrev pub left : Counted → Name → Counted
 left c k = record {
   objects = record c.objects { rows = map.remove c.objects.rows k };
   counts = record c.counts { rows = map.remove c.counts.rows k };
@@ -150,7 +146,7 @@ fewer m k = elim (map.contains_key m k) as (λ b. map.len (map.remove m k) ≡ c
   | false ↦ λ is. omega (arith, is)
 ] (len-remove names_total m k)
 
-pub filed_left : (c : Census) (k : Name) → IsFiled c → IsFiled (left c k)
+pub filed_left : (c : Counted) (k : Name) → IsFiled c → IsFiled (left c k)
 filed_left c k is =
     let here : IsFiledAt (left c k) k = record {
       counted = ap is_some (gone c.counts.rows k) ∙ sym (ap is_some (gone c.objects.rows k));
@@ -172,6 +168,13 @@ filed_left c k is =
       ];
       rooms = record { within = omega (arith, fewer c.objects.rows k, is.rooms.within); counts = is.rooms.counts; loose = is.rooms.loose; shared = is.rooms.shared };
     }
+
+-- a name that has no object is in no table
+pub filed_absent : (c : Counted) (k : Name) → IsFiled c → map.get c.objects.rows k ≡ None → IsFiled (record c { objects = record c.objects { rows = map.remove c.objects.rows k }; counts = record c.counts { rows = map.remove c.counts.rows k } })
+filed_absent c k is none =
+    let uncounted = is_none_of _ ((is.each k).counted ∙ ap is_some none) in
+    subst (λ h. IsFiled (record c { objects = record c.objects { rows = h }; counts = record c.counts { rows = map.remove c.counts.rows k } })) (rows_gap k c.objects.rows none) (
+    subst (λ q. IsFiled (record c { counts = record c.counts { rows = q } })) (rows_gap k c.counts.rows uncounted) is)
 
 and_parts : (a b : Bool) → (a && b) ≡ true → (a ≡ true) × (b ≡ true)
 and_parts true b is = (refl, is)

@@ -13,11 +13,11 @@ use Rattle.dl_ir.specs.declared.names.Name.{Name}
 use Rattle.dl_ir.specs.declared.names.Value.{Value}
 use Rattle.dl_ir.specs.declared.names.Value.TheVariants.{Int}
 use Rattle.dl_ir.specs.declared.objects.Obj.{Obj}
-use Rattle.dl_ir.specs.declared.census.Census.{Census}
+use Rattle.dl_ir.specs.Counted.{Counted}
 use Rattle.dl_ir.specs.Heap.{Objects, name_cmp, with_field, with_field_of}
 use Rattle.dl_ir.specs.Rows.{Rows}
 use Rattle.dl_ir.specs.References.{refers_to, refs, is_open, is_loose, is_shared, first_name, with_seal, with_seal_of}
-use Rattle.dl_ir.specs.Census.{open_at, is_none, is_many, IsFiled, IsFiledBut, Gains, Loses, AreThere, HasFewFields, IsKept}
+use Rattle.dl_ir.specs.Census.{open_at, is_none, is_many, IsFiledAt, IsFiled, IsFiledBut, Gains, Loses, AreThere, HasFewFields, IsKept}
 use Rattle.dl_ir.proofs.NameOrder.{names_total, exact_names}
 use Rattle.dl_ir.proofs.Members.{Held, In, get_in, zeros}
 use Rattle.dl_ir.proofs.Totals.{sum-put, total-remove}
@@ -79,11 +79,6 @@ some_none is = cc
 true_false : true ≡ false → ⊥
 true_false is = cc
 
--- what has a name has a value under it
-has : {X : Type 0} (o : Option X) → is_some o ≡ true → (x : X) × (o ≡ Some x)
-has None is = cc
-has (Some x) is = (x, refl)
-
 pub has_not : {X : Type 0} (o : Option X) → is_some o ≡ false → o ≡ None
 has_not None is = refl
 has_not (Some x) is = cc
@@ -139,10 +134,10 @@ module _ (h : Objects) (k : Name) (o w : Obj) (is : map.get h k ≡ Some o) wher
   ]
 
 -- the census with other objects
-abbrev pub over : Census → Objects → Census
+abbrev pub over : Counted → Objects → Counted
 over c h = record c { objects = record c.objects { rows = h } }
 
-refiled : (c : Census) (h : Objects) → IsFiled c → ((n : Name) → map.contains_key h n ≡ map.contains_key c.objects.rows n)
+refiled : (c : Counted) (h : Objects) → IsFiled c → ((n : Name) → map.contains_key h n ≡ map.contains_key c.objects.rows n)
     → ((n : Name) → open_at n (map.get h n) ≡ open_at n (map.get c.objects.rows n)) → map.len h ≡ map.len c.objects.rows → IsFiled (over c h)
 refiled c h filed there opened same = record {
   each = λ n.
@@ -156,11 +151,11 @@ refiled c h filed there opened same = record {
 }
 
 -- counts are far below what a word holds
-pub small_counts : (c : Census) (d : Bool) → IsKept c d → (n : Name) (k : ℕ) → map.get c.counts.rows n ≡ Some k → k ≤ 2 ^ 52
+pub small_counts : (c : Counted) (d : Bool) → IsKept c d → (n : Name) (k : ℕ) → map.get c.counts.rows n ≡ Some k → k ≤ 2 ^ 52
 small_counts c d kept n k is =
     omega (arith, kept.counted n k is, refs-few c.objects.rows c.objects.room n kept.few_fields kept.filed.rooms.within, kept.small)
 
-pub small_refs : (c : Census) (d : Bool) → IsKept c d → (n : Name) → refs c.objects.rows n ≤ 2 ^ 52
+pub small_refs : (c : Counted) (d : Bool) → IsKept c d → (n : Name) → refs c.objects.rows n ≤ 2 ^ 52
 small_refs c d kept n =
     omega (arith, refs-few c.objects.rows c.objects.room n kept.few_fields kept.filed.rooms.within, kept.small)
 
@@ -168,7 +163,7 @@ small_refs c d kept n =
 pub refs_nothing : (n : Name) → refs map.empty n ≡ 0
 refs_nothing n = zeros (in_object n) (map.entries map.empty) (λ e there. absurd (some_none (sym (get_in map.empty e there) ∙ get-empty name_cmp e.0)))
 
-pub kept_empty : (c : Census) (room : ℕ) → c.objects ≡ record { rows = map.empty; room = room } → c.counts ≡ record { rows = map.empty; room = room } → IsFiled c → room ≤ 2 ^ 48 → IsKept c false
+pub kept_empty : (c : Counted) (room : ℕ) → c.objects ≡ record { rows = map.empty; room = room } → c.counts ≡ record { rows = map.empty; room = room } → IsFiled c → room ≤ 2 ^ 48 → IsKept c false
 kept_empty c room objects counts filed small = record {
   filed = filed;
   counted = λ n k is. absurd (some_none (sym is ∙ ap (λ (t : Rows ℕ). map.get t.rows n) counts ∙ get-empty name_cmp n));
@@ -184,16 +179,16 @@ test_is h n None q fits passes at same counted = refl
 test_is h n (Some x) None fits passes at same counted = absurd (true_false (sym same))
 test_is h n (Some x) (Some c) fits passes at same counted = ap (λ b. is_open (n, x) && b) (at c) ∙ ap (λ m. is_open (n, x) && fits m) (counted c refl)
 
-pub first_loose_is : (c : Census) (d : Bool) → IsKept c d → option_map (λ (e : Name × Unit {0}). e.0) (slice_get (map.entries c.loose.rows) 0) ≡ first_name (is_loose c.objects.rows) c.objects.rows
+pub first_loose_is : (c : Counted) (d : Bool) → IsKept c d → option_map (λ (e : Name × Unit {0}). e.0) (slice_get (map.entries c.loose.rows) 0) ≡ first_name (is_loose c.objects.rows) c.objects.rows
 first_loose_is c d kept = first_is c.loose.rows c.objects.rows (is_loose c.objects.rows) (λ n.
     (kept.filed.each n).loose ∙ test_is c.objects.rows n (map.get c.objects.rows n) (map.get c.counts.rows n) (λ m. m == 0) is_none (λ m. refl) (kept.filed.each n).counted (kept.counted n))
 
-pub first_shared_is : (c : Census) (d : Bool) → IsKept c d → option_map (λ (e : Name × Unit {0}). e.0) (slice_get (map.entries c.shared.rows) 0) ≡ first_name (is_shared c.objects.rows) c.objects.rows
+pub first_shared_is : (c : Counted) (d : Bool) → IsKept c d → option_map (λ (e : Name × Unit {0}). e.0) (slice_get (map.entries c.shared.rows) 0) ≡ first_name (is_shared c.objects.rows) c.objects.rows
 first_shared_is c d kept = first_is c.shared.rows c.objects.rows (is_shared c.objects.rows) (λ n.
     (kept.filed.each n).shared ∙ test_is c.objects.rows n (map.get c.objects.rows n) (map.get c.counts.rows n) (λ m. nat_le 2 m) is_many (λ m. refl) (kept.filed.each n).counted (kept.counted n))
 
 -- what a census keeps, told of its objects under a name of their own
-keeps : (c final : Census) (d : Bool) (h : Objects) → final.objects ≡ record c.objects { rows = h } → IsFiled final
+keeps : (c final : Counted) (d : Bool) (h : Objects) → final.objects ≡ record c.objects { rows = h } → IsFiled final
     → ((n : Name) (k : ℕ) → map.get final.counts.rows n ≡ Some k → k ≡ refs h n) → HasFewFields h → (d ≡ false → (n : Name) → map.get h n ≡ None → refs h n ≡ 0)
     → c.objects.room ≤ 2 ^ 48 → IsKept final d
 keeps c final d h objects filed counted few dangling small = record {
@@ -221,7 +216,7 @@ no_field h name field value is = elim (map.get h name) as (λ o. map.get h name 
 ] refl is
 
 -- a field is written, the value before it is counted no more, and the new one is
-module _ (c : Census) (d : Bool) (kept : IsKept c d) (name : Name) (field : ℕ) (before value : Value)
+module _ (c : Counted) (d : Bool) (kept : IsKept c d) (name : Name) (field : ℕ) (before value : Value)
     (held : Some before ≡ option_and_then (λ (x : Obj). slice_get x.fields field) (map.get c.objects.rows name)) where
   abbrev heap : Objects
   heap = c.objects.rows
@@ -255,7 +250,7 @@ module _ (c : Census) (d : Bool) (kept : IsKept c d) (name : Name) (field : ℕ)
       let old = mapped (λ count. count - count_by (refers_to n) (before ∷ [])) (map.get c.counts.rows n) k (sym (loses n) ∙ is) in
       omega (arith, old.2, small_counts c d kept n old.0 old.1)
 
-  pub kept_field : (final : Census) (now : FinMap name_cmp ℕ) (there : Bool) → final.objects ≡ record c.objects { rows = written } → IsFiled final
+  pub kept_field : (final : Counted) (now : FinMap name_cmp ℕ) (there : Bool) → final.objects ≡ record c.objects { rows = written } → IsFiled final
       → Loses c.counts.rows now (before ∷ []) → Gains now final.counts.rows (value ∷ []) → (there ≡ true → AreThere written (value ∷ [])) → IsKept final (d || not there)
   kept_field final now there objects filed loses gains are_there = keeps c final (d || not there) written objects filed
       (λ n k is.
@@ -269,55 +264,79 @@ module _ (c : Census) (d : Bool) (kept : IsKept c d) (name : Name) (field : ℕ)
       omega (arith, balance n, kept.dangling split.0 n gone_before, are_there (not_not there split.1) n none))
       kept.small
 
--- an object is sealed
-module _ (c : Census) (d : Bool) (kept : IsKept c d) (name : Name) (count : ℕ) (counts : Some count ≡ map.get c.counts.rows name) where
-  sealed_parts : (x : Obj) × (map.get c.objects.rows name ≡ Some x)
-  sealed_parts = has (map.get c.objects.rows name) (sym (kept.filed.each name).counted ∙ ap is_some (sym counts))
+-- what holds of a heap without the object, and of one that has it sealed, holds once it is sealed
+by_seal : (h : Objects) (k : Name) (P : Objects → Type 0) → (map.get h k ≡ None → P h) → ((x : Obj) → map.get h k ≡ Some x → P (map.insert h k (record x { sealed = true }))) → P (with_seal h k)
+by_seal h k P none some = elim (map.get h k) as (λ o. map.get h k ≡ o → P (with_seal_of h k o)) [ None ↦ none | Some x ↦ some x ] refl
 
-  abbrev sealed_object : Obj
-  sealed_object = record sealed_parts.0 { sealed = true }
+never : (b : Bool) → (b && false) ≡ false
+never true = refl
+never false = refl
 
-  abbrev sealed : Objects
-  sealed = with_seal c.objects.rows name
+module _ (h : Objects) (k : Name) where
+  seal_has : (n : Name) → map.contains_key (with_seal h k) n ≡ map.contains_key h n
+  seal_has n = by_seal h k (λ g. map.contains_key g n ≡ map.contains_key h n) (λ _. refl) (λ x is. has_still h k x (record x { sealed = true }) is n)
 
-  sealed_is : sealed ≡ map.insert c.objects.rows name sealed_object
-  sealed_is = ap (with_seal_of c.objects.rows name) sealed_parts.1
+  seal_beside : (n : Name) → eq_by_cmp name_cmp n k ≡ false → map.get (with_seal h k) n ≡ map.get h n
+  seal_beside n other = by_seal h k (λ g. map.get g n ≡ map.get h n) (λ _. refl) (λ x is. got_beside h k (record x { sealed = true }) n other)
 
-  pub sealed_there : map.contains_key sealed name ≡ true
-  sealed_there = ap (λ g. map.contains_key g name) sealed_is ∙ ap is_some (got_put c.objects.rows name sealed_object)
+  seal_closed : open_at k (map.get (with_seal h k) k) ≡ false
+  seal_closed = by_seal h k (λ g. open_at k (map.get g k) ≡ false) (λ none. ap (open_at k) none) (λ x is. ap (open_at k) (got_put h k (record x { sealed = true })) ∙ never (nat_lt 0 k.ticket))
 
-  pub but_sealed : IsFiledBut name (over c sealed)
-  but_sealed = subst (λ g. IsFiledBut name (over c g)) (sym sealed_is) (record {
-    each = λ n other.
-        let old = kept.filed.each n in
-        let same = sym (got_beside c.objects.rows name sealed_object n other) in
-        record {
-          counted = old.counted ∙ ap is_some same;
-          loose = old.loose ∙ ap (λ o. open_at n o && is_none (map.get c.counts.rows n)) same;
-          shared = old.shared ∙ ap (λ o. open_at n o && is_many (map.get c.counts.rows n)) same;
-        };
-    rooms = record { within = subst (λ m. m ≤ c.objects.room) (sym (len_still c.objects.rows name sealed_parts.0 sealed_object sealed_parts.1)) kept.filed.rooms.within; counts = kept.filed.rooms.counts; loose = kept.filed.rooms.loose; shared = kept.filed.rooms.shared };
-  })
+  seal_len : map.len (with_seal h k) ≡ map.len h
+  seal_len = by_seal h k (λ g. map.len g ≡ map.len h) (λ _. refl) (λ x is. len_still h k x (record x { sealed = true }) is)
 
-  refs-sealed : (n : Name) → refs sealed n ≡ refs c.objects.rows n
-  refs-sealed n = omega (arith, ap (λ g. refs g n) sealed_is, refs-over c.objects.rows name sealed_parts.0 sealed_object n sealed_parts.1)
+  seal_refs : (n : Name) → refs (with_seal h k) n ≡ refs h n
+  seal_refs n = by_seal h k (λ g. refs g n ≡ refs h n) (λ _. refl) (λ x is. omega (arith, refs-over h k x (record x { sealed = true }) n is))
 
-  pub kept_sealed : (final : Census) → final.objects ≡ record c.objects { rows = sealed } → IsFiled final → final.counts.rows ≡ map.insert c.counts.rows name count → IsKept final d
-  kept_sealed final objects filed now = keeps c final d sealed objects filed
-      (λ n k is. elim (same_or_not n name) [
-        | inl same ↦
-            let held : count ≡ k = some_same (sym (ap (λ g. map.get g n) now ∙ ap (map.get (map.insert c.counts.rows name count)) same ∙ got_put c.counts.rows name count) ∙ is) in
-            sym held ∙ kept.counted name count (sym counts) ∙ ap (refs c.objects.rows) (sym same) ∙ sym (refs-sealed n)
-        | inr other ↦ kept.counted n k (sym (ap (λ g. map.get g n) now ∙ got_beside c.counts.rows name count n other) ∙ is) ∙ sym (refs-sealed n)
-      ])
-      (subst HasFewFields (sym sealed_is) (few_still c.objects.rows name sealed_parts.0 sealed_object sealed_parts.1 kept.few_fields (kept.few_fields name sealed_parts.0 sealed_parts.1)))
-      (λ no n none.
-      let none_before = has_not (map.get c.objects.rows n) (sym (has_still c.objects.rows name sealed_parts.0 sealed_object sealed_parts.1 n) ∙ ap (λ g. map.contains_key g n) (sym sealed_is) ∙ ap is_some none) in
-      refs-sealed n ∙ kept.dangling no n none_before)
-      kept.small
+  seal_few : HasFewFields h → HasFewFields (with_seal h k)
+  seal_few few = by_seal h k HasFewFields (λ _. few) (λ x is. few_still h k x (record x { sealed = true }) is few (few k x is))
+
+-- an object is sealed, and its name is neither among the loose nor among the shared ones
+pub filed_sealed : (c : Counted) (k : Name) → IsFiled c → IsFiled (record {
+  objects = record c.objects { rows = with_seal c.objects.rows k };
+  counts = c.counts;
+  loose = record c.loose { rows = map.remove c.loose.rows k };
+  shared = record c.shared { rows = map.remove c.shared.rows k };
+})
+filed_sealed c k is =
+    let heap = with_seal c.objects.rows k in
+    let new : Counted = record {
+      objects = record c.objects { rows = heap };
+      counts = c.counts;
+      loose = record c.loose { rows = map.remove c.loose.rows k };
+      shared = record c.shared { rows = map.remove c.shared.rows k };
+    } in
+    let here : IsFiledAt new k = record {
+      counted = (is.each k).counted ∙ sym (seal_has c.objects.rows k k);
+      loose = ap is_some (gone c.loose.rows k) ∙ sym (ap (λ b. b && is_none (map.get c.counts.rows k)) (seal_closed c.objects.rows k));
+      shared = ap is_some (gone c.shared.rows k) ∙ sym (ap (λ b. b && is_many (map.get c.counts.rows k)) (seal_closed c.objects.rows k));
+    } in
+    record {
+      each = λ n. elim (same_or_not n k) as (λ _. IsFiledAt new n) [
+        | inl same ↦ subst (IsFiledAt new) (sym same) here
+        | inr other ↦
+            let old = is.each n in
+            let o = sym (seal_beside c.objects.rows k n other) in
+            record {
+              counted = old.counted ∙ ap is_some o;
+              loose = ap is_some (got_left c.loose.rows k n other) ∙ old.loose ∙ ap (λ x. open_at n x && is_none (map.get c.counts.rows n)) o;
+              shared = ap is_some (got_left c.shared.rows k n other) ∙ old.shared ∙ ap (λ x. open_at n x && is_many (map.get c.counts.rows n)) o;
+            }
+      ];
+      rooms = record { within = subst (λ m. m ≤ c.objects.room) (sym (seal_len c.objects.rows k)) is.rooms.within; counts = is.rooms.counts; loose = is.rooms.loose; shared = is.rooms.shared };
+    }
+
+pub kept_sealed : (c : Counted) (d : Bool) (kept : IsKept c d) (name : Name) (final : Counted) → final.objects ≡ record c.objects { rows = with_seal c.objects.rows name } → IsFiled final → final.counts ≡ c.counts → IsKept final d
+kept_sealed c d kept name final objects filed counts = keeps c final d (with_seal c.objects.rows name) objects filed
+    (λ n k is. kept.counted n k (sym (ap (λ (t : Rows ℕ). map.get t.rows n) counts) ∙ is) ∙ sym (seal_refs c.objects.rows name n))
+    (seal_few c.objects.rows name kept.few_fields)
+    (λ no n none.
+    let none_before = has_not (map.get c.objects.rows n) (sym (seal_has c.objects.rows name n) ∙ ap is_some none) in
+    seal_refs c.objects.rows name n ∙ kept.dangling no n none_before)
+    kept.small
 
 -- an object is taken out, and its values are counted no more
-module _ (c : Census) (d : Bool) (kept : IsKept c d) (name : Name) where
+module _ (c : Counted) (d : Bool) (kept : IsKept c d) (name : Name) where
   counted_left : (now : FinMap name_cmp ℕ) (n : Name) (k : ℕ) → now ≡ map.remove c.counts.rows name → map.get now n ≡ Some k → (eq_by_cmp name_cmp n name ≡ false) × (map.get c.counts.rows n ≡ Some k)
   counted_left now n k left is = elim (same_or_not n name) [
     | inl same ↦ absurd (some_none (sym is ∙ ap (λ g. map.get g n) left ∙ ap (map.get (map.remove c.counts.rows name)) same ∙ gone c.counts.rows name))
@@ -330,7 +349,7 @@ module _ (c : Census) (d : Bool) (kept : IsKept c d) (name : Name) where
     | inr other ↦ kept.few_fields n o (sym (got_left c.objects.rows name n other) ∙ is)
   ]
 
-  pub kept_taken : (final : Census) (object : Obj) (now : FinMap name_cmp ℕ) → Some object ≡ map.get c.objects.rows name → final.objects ≡ record c.objects { rows = map.remove c.objects.rows name } → IsFiled final
+  pub kept_taken : (final : Counted) (object : Obj) (now : FinMap name_cmp ℕ) → Some object ≡ map.get c.objects.rows name → final.objects ≡ record c.objects { rows = map.remove c.objects.rows name } → IsFiled final
       → now ≡ map.remove c.counts.rows name → Loses now final.counts.rows object.fields → IsKept final (d || nat_lt 0 (refs c.objects.rows name))
   kept_taken final object now there objects filed left loses =
       keeps c final (d || nat_lt 0 (refs c.objects.rows name)) (map.remove c.objects.rows name) objects filed
@@ -354,7 +373,7 @@ module _ (c : Census) (d : Bool) (kept : IsKept c d) (name : Name) where
     | inr other ↦ got_left c.objects.rows name q other
   ])
 
-  pub kept_absent : (final : Census) → None ≡ map.get c.objects.rows name → final.objects ≡ record c.objects { rows = map.remove c.objects.rows name } → IsFiled final
+  pub kept_absent : (final : Counted) → None ≡ map.get c.objects.rows name → final.objects ≡ record c.objects { rows = map.remove c.objects.rows name } → IsFiled final
       → final.counts.rows ≡ map.remove c.counts.rows name → IsKept final d
   kept_absent final none objects filed left = keeps c final d (map.remove c.objects.rows name) objects filed
       (λ n k is. kept.counted n k (counted_left final.counts.rows n k left is).1 ∙ ap (λ g. refs g n) (sym (same_left none)))
@@ -362,31 +381,33 @@ module _ (c : Census) (d : Bool) (kept : IsKept c d) (name : Name) where
       (λ no n absent. ap (λ g. refs g n) (same_left none) ∙ kept.dangling no n (ap (λ g. map.get g n) (sym (same_left none)) ∙ absent))
       kept.small
 
--- a new object is put in, and its values are counted
-module _ (c : Census) (d : Bool) (kept : IsKept c d) (name : Name) (object : Obj) (absent : map.get c.objects.rows name ≡ None) (room : map.len c.objects.rows < c.objects.room) (few : length object.fields ≤ 16) where
+-- a new object is put in
+pub but_entered : (now : Counted) (name : Name) (object : Obj) → IsFiled now → map.get now.objects.rows name ≡ None → map.len now.objects.rows < now.objects.room
+    → IsFiledBut name (record now { objects = record now.objects { rows = map.insert now.objects.rows name object } })
+but_entered now name object filed absent room =
+    let longer : map.len (map.insert now.objects.rows name object) ≡ map.len now.objects.rows + 1
+    = len-insert names_total now.objects.rows name object ∙ ap (λ q. cond (is_some q) (map.len now.objects.rows) (map.len now.objects.rows + 1)) absent in
+    record {
+      each = λ n other.
+          let old = filed.each n in
+          let same = sym (got_beside now.objects.rows name object n other) in
+          record {
+            counted = old.counted ∙ ap is_some same;
+            loose = old.loose ∙ ap (λ o. open_at n o && is_none (map.get now.counts.rows n)) same;
+            shared = old.shared ∙ ap (λ o. open_at n o && is_many (map.get now.counts.rows n)) same;
+          };
+      rooms = record { within = omega (arith, longer, room); counts = filed.rooms.counts; loose = filed.rooms.loose; shared = filed.rooms.shared };
+    }
+
+-- and its values are counted
+module _ (c : Counted) (d : Bool) (kept : IsKept c d) (name : Name) (object : Obj) (absent : map.get c.objects.rows name ≡ None) (few : length object.fields ≤ 16) where
   abbrev entered : Objects
   entered = map.insert c.objects.rows name object
 
   pub gain_fits : (n : Name) (k : ℕ) → map.get c.counts.rows n ≡ Some k → k + length object.fields < 2 ^ 64
   gain_fits n k is = omega (arith, small_counts c d kept n k is, few)
 
-  len_entered : map.len entered ≤ c.objects.room
-  len_entered = omega (arith, len-insert names_total c.objects.rows name object ∙ ap (λ q. cond (is_some q) (map.len c.objects.rows) (map.len c.objects.rows + 1)) absent, room)
-
-  pub but_entered : (now : Census) → now.objects ≡ c.objects → IsFiled now → IsFiledBut name (record now { objects = record now.objects { rows = map.insert now.objects.rows name object } })
-  but_entered now objects filed = record {
-    each = λ n other.
-        let old = filed.each n in
-        let same = sym (got_beside now.objects.rows name object n other) in
-        record {
-          counted = old.counted ∙ ap is_some same;
-          loose = old.loose ∙ ap (λ o. open_at n o && is_none (map.get now.counts.rows n)) same;
-          shared = old.shared ∙ ap (λ o. open_at n o && is_many (map.get now.counts.rows n)) same;
-        };
-    rooms = record { within = subst (λ (t : Rows Obj). map.len (map.insert t.rows name object) ≤ t.room) (sym objects) len_entered; counts = filed.rooms.counts; loose = filed.rooms.loose; shared = filed.rooms.shared };
-  }
-
-  pub kept_entered : (final : Census) (now : FinMap name_cmp ℕ) (there : Bool) → final.objects ≡ record c.objects { rows = entered } → IsFiled final → Gains c.counts.rows now object.fields
+  pub kept_entered : (final : Counted) (now : FinMap name_cmp ℕ) (there : Bool) → final.objects ≡ record c.objects { rows = entered } → IsFiled final → Gains c.counts.rows now object.fields
       → final.counts.rows ≡ map.insert now name (refs c.objects.rows name + count_by (refers_to name) object.fields) → (there ≡ true → AreThere c.objects.rows object.fields) → IsKept final (d || not there)
   kept_entered final now there objects filed gains counts are_there =
       let own = refs c.objects.rows name + count_by (refers_to name) object.fields in

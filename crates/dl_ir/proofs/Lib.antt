@@ -4,6 +4,8 @@ mod Falling
 mod Filing
 pub mod Keeping
 pub mod Lookups
+mod CountedEdits
+mod Mapped
 pub mod Members
 pub mod NameOrder
 mod Padding

@@ -10,6 +10,7 @@ use Rattle.std.proofs.lemmas.List.{take-set-le}
 use Rattle.dl_ir.specs.declared.names.Name.{Name}
 use Rattle.dl_ir.specs.Heap.{name_cmp}
 use Rattle.dl_ir.specs.Places.{IsAt, IsGap, IsTable, present}
+use Rattle.dl_ir.specs.Rows.{changed_of}
 use Rattle.dl_ir.proofs.NameOrder.{names_total}
 use Rattle.dl_ir.proofs.SortedEntries.{Held, holds}
 use Rattle.dl_ir.proofs.Edits.{got, sorted-set, made-set, gap_within, got_none, sorted-insert, made-insert}
@@ -29,11 +30,6 @@ len_more (Some v) n = omega arith
 len_fewer : {X : Type 0} → (o : Option X) (n : ℕ) → cond (is_some o) (n - 1) n ≡ n - fewer o
 len_fewer None n = omega arith
 len_fewer (Some v) n = refl
-
--- the map in which this value is changed, if it is there
-abbrev pub changed : {X : Type 0} → FinMap name_cmp X → Name → (X → X) → Option X → FinMap name_cmp X
-changed m k change None = m
-changed m k change (Some v) = map.insert m k (change v)
 
 module _ {X : Type 0} {es : Held (Option X)} {count first room capacity : ℕ} (table : IsTable es count first room capacity) where
   sorted : T (is_sorted name_cmp es)
@@ -95,7 +91,7 @@ module _ {X : Type 0} {es : Held (Option X)} {count first room capacity : ℕ} (
 
       -- a value is changed, if there is one
       module _ (change : X → X) where
-        rows-changed : (o : Option X) → map.get (rows es) k ≡ o → rows (set es at (k, option_map change o)) ≡ changed (rows es) k change o
+        rows-changed : (o : Option X) → map.get (rows es) k ≡ o → rows (set es at (k, option_map change o)) ≡ changed_of (rows es) k change o
         rows-changed None is = rows-none ∙ sym (rows_gap k (rows es) is)
         rows-changed (Some v) is = rows-put (change v)
 
@@ -106,7 +102,7 @@ module _ {X : Type 0} {es : Held (Option X)} {count first room capacity : ℕ} (
         none_changed : (o : Option X) → o ≡ None → option_map change o ≡ None
         none_changed o is = ap (option_map change) is
 
-        pub after : rows (set es at (k, option_map change (entry.0).1)) ≡ changed (rows es) k change (entry.0).1
+        pub after : rows (set es at (k, option_map change (entry.0).1)) ≡ changed_of (rows es) k change (entry.0).1
         after = rows-changed (entry.0).1 entry.3
 
         pub table-after : IsTable (set es at (k, option_map change (entry.0).1)) count first room capacity

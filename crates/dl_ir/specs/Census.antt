@@ -6,7 +6,7 @@ use Rattle.std.specs.FinMap as map
 use Rattle.dl_ir.specs.declared.names.Name.{Name}
 use Rattle.dl_ir.specs.declared.names.Value.{Value}
 use Rattle.dl_ir.specs.declared.objects.Obj.{Obj}
-use Rattle.dl_ir.specs.declared.census.Census.{Census}
+use Rattle.dl_ir.specs.Counted.{Counted}
 use Rattle.dl_ir.specs.Heap.{Objects, name_cmp}
 use Rattle.dl_ir.specs.References.{refers_to, refs, is_open}
 
@@ -27,30 +27,30 @@ is_many (Some count) = nat_le 2 count
 
 -- The tables tell the truth of this name: it has a count exactly where it has an object, and it is among the loose or
 -- the shared ones exactly where it is hidden, unsealed and of such a count.
-pub record IsFiledAt (census : Census) (name : Name) : Type 0 where
+pub record IsFiledAt (census : Counted) (name : Name) : Type 0 where
   pub counted : map.contains_key census.counts.rows name ≡ map.contains_key census.objects.rows name
   pub loose : map.contains_key census.loose.rows name ≡ (open_at name (map.get census.objects.rows name) && is_none (map.get census.counts.rows name))
   pub shared : map.contains_key census.shared.rows name ≡ (open_at name (map.get census.objects.rows name) && is_many (map.get census.counts.rows name))
 
 -- Each table has memory for as many names as there may be objects.
-pub record HasRooms (census : Census) : Type 0 where
+pub record HasRooms (census : Counted) : Type 0 where
   pub within : map.len census.objects.rows ≤ census.objects.room
   pub counts : census.counts.room ≡ census.objects.room
   pub loose : census.loose.room ≡ census.objects.room
   pub shared : census.shared.room ≡ census.objects.room
 
 -- The tables tell the truth of every name.
-pub record IsFiled (census : Census) : Type 0 where
+pub record IsFiled (census : Counted) : Type 0 where
   pub each : (name : Name) → IsFiledAt census name
   pub rooms : HasRooms census
 
 -- The tables tell the truth of every name but this one.
-pub record IsFiledBut (but : Name) (census : Census) : Type 0 where
+pub record IsFiledBut (but : Name) (census : Counted) : Type 0 where
   pub each : (name : Name) → eq_by_cmp name_cmp name but ≡ false → IsFiledAt census name
   pub rooms : HasRooms census
 
 -- The census in which an object has this count.
-abbrev pub with_count : Name → ℕ → Census → Census
+abbrev pub with_count : Name → ℕ → Counted → Counted
 with_count name count census = record census { counts = record census.counts { rows = map.insert census.counts.rows name count } }
 
 -- The names of a table, one of them marked or not.
@@ -79,7 +79,7 @@ HasFewFields objects = (name : Name) (object : Obj) → map.get objects name ≡
 
 -- What a heap keeps of its objects is true: each count is the number of fields that refer to the object, and unless
 -- fields may refer to what is not there, none does.
-pub record IsKept (census : Census) (may_dangle : Bool) : Type 0 where
+pub record IsKept (census : Counted) (may_dangle : Bool) : Type 0 where
   pub filed : IsFiled census
   pub counted : (name : Name) (count : ℕ) → map.get census.counts.rows name ≡ Some count → count ≡ refs census.objects.rows name
   pub few_fields : HasFewFields census.objects.rows

@@ -2,9 +2,11 @@ pub mod CallForms
 pub mod Census
 pub mod Checked
 pub mod Codes
+pub mod Counted
 pub mod Cover
 pub mod Evaluation
 pub mod Heap
+pub mod Mapped
 pub mod Marks
 pub mod Meaning
 pub mod Padding

@@ -1,7 +1,7 @@
 -- Values under names, as a table has them.
-use Rattle.std.specs.Prelude.{ℕ, List, [], ◌∷◌, refl}
+use Rattle.std.specs.Prelude.{ℕ, List, [], ◌∷◌, Option, Some, None, refl}
 use Rattle.std.specs.Coded.{Coded, code_by, coded×, coded_ℕ}
-use Rattle.std.specs.FinMap.{FinMap, code, insert}
+use Rattle.std.specs.FinMap.{FinMap, code, get, insert}
 use Rattle.dl_ir.specs.declared.names.Name.{Name}
 use Rattle.dl_ir.specs.Values.{coded_name}
 use Rattle.dl_ir.specs.Heap.{name_cmp}
@@ -19,3 +19,12 @@ coded_rows {X} coded_value = code_by (FinMap name_cmp X × ℕ) (coded× (code c
 abbrev pub added : {X : Type 0} → FinMap name_cmp X → List (Name × X) → FinMap name_cmp X
 added rows [] = rows
 added rows (e ∷ es) = added (insert rows e.0 e.1) es
+
+-- The map in which this value under a name is changed, if it is there.
+abbrev pub changed_of : {X : Type 0} → FinMap name_cmp X → Name → (X → X) → Option X → FinMap name_cmp X
+changed_of rows name change None = rows
+changed_of rows name change (Some value) = insert rows name (change value)
+
+-- The map in which the value under a name is changed, if there is one.
+abbrev pub changed : {X : Type 0} → FinMap name_cmp X → Name → (X → X) → FinMap name_cmp X
+changed rows name change = changed_of rows name change (get rows name)

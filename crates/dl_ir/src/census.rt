@@ -1,27 +1,42 @@
 //! The objects of a heap with what is counted and filed beside them.
 
-ghost use Rattle.std.specs.Prelude.{◌≡◌, ◌&&◌, ◌+◌, ◌^◌, ◌<◌, ◌≤◌, ℕ, true, false, Some, None, IfOk, OnSome, length, count_by, ◌∷◌, []};
+ghost use Rattle.std.specs.Prelude.{◌≡◌, ◌&&◌, ◌↔◌, ◌+◌, ◌^◌, ◌<◌, ◌≤◌, ℕ, true, false, Some, None, IfOk, IsTrue, OnSome, length, count_by, ◌∷◌, [], nat_lt, slice_get, option_and_then, if◌then◌else◌};
+ghost use Rattle.std.specs.Option.{option_copied, option_map};
 ghost use Rattle.std.specs.Ordering.{eq_by_cmp};
 ghost use Rattle.std.specs.FinMap as map;
-ghost use Rattle.dl_ir.specs.Census.{open_at, marked, with_count, IsFiled, IsFiledBut, Gains, Loses, AreThere};
-ghost use Rattle.dl_ir.specs.Heap.{name_cmp};
-ghost use Rattle.dl_ir.specs.References.{refers_to, target_in};
+ghost use Rattle.dl_ir.specs.Census.{open_at, marked, with_count, IsFiled, Gains, Loses, AreThere};
+ghost use Rattle.dl_ir.specs.Heap.{name_cmp, with_field};
+ghost use Rattle.dl_ir.specs.References.{refers_to, target_in, with_seal};
 ghost use Rattle.dl_ir.specs.declared.names.Name.{Name};
+ghost use Rattle.dl_ir.specs.declared.objects.Obj.{Obj};
+ghost use Rattle.dl_ir.specs.declared.rows.Row.{Row};
 
+use crate::iterators::HeapIter;
 use crate::marks::Marks;
 use crate::names::{Name, Value};
 use crate::objects::Obj;
+use crate::rows::Row;
 use crate::tables::Table;
 use std::alloc::{AllocError, Global};
+use std::marker::Model;
 
-/// The objects of a heap, the number of fields that refer to each, and the names of those that settling changes:
+/// The objects of a heap, each with the number of fields that refer to it, and the names of those that settling changes:
 /// the loose ones, to which no field refers, and the shared ones, to which two or more do.
 #[derive(Drop)]
 pub struct Census {
-    pub objects: Table<Obj>,
-    pub counts: Table<u64>,
-    pub loose: Marks,
-    pub shared: Marks,
+    rows: Table<Row>,
+    loose: Marks,
+    shared: Marks,
+}
+
+impl Model for Census {
+    ghost use Rattle.dl_ir.specs.Counted.{Counted, coded_counted, counted_by};
+
+    ghost Value = { Counted };
+
+    ghost coded = { coded_counted };
+
+    ghost view = { λ c. counted_by c.rows c.loose c.shared };
 }
 
 impl Census {
@@ -32,49 +47,124 @@ impl Census {
         ensures filed { IfOk result IsFiled }
     {
         Ok(Census {
-            objects: Table::new(alloc, room)?,
-            counts: Table::new(alloc, room)?,
+            rows: Table::new(alloc, room)?,
             loose: Marks::new(alloc, room)?,
             shared: Marks::new(alloc, room)?,
         })
     }
 
-    /// Writes the number of fields that refer to an object, and files its name by that.
-    pub fn file(&mut self, name: Name, count: u64)
-        requires filed { IsFiledBut name self.old }
-        requires there { map.contains_key self.old.objects.rows name ≡ true }
-        ensures filed { IsFiled self.new }
-        ensures counts { self.new.counts.rows ≡ map.insert self.old.counts.rows name count }
-        ensures objects { self.new.objects ≡ self.old.objects }
+    /// The object with this name, if there is one.
+    pub fn get(&self, name: Name) -> Option<&Obj>
+        ensures { option_copied result ≡ map.get self.now.objects.rows name }
     {
-        let is_open = is_open(&self.objects, name);
-        self.counts.put(name, count);
-        mark(&mut self.loose, name, is_open, count == 0);
-        mark(&mut self.shared, name, is_open, count >= 2);
+        match self.rows.get(name) {
+            Some(row) => Some(&row.object),
+            None => None,
+        }
     }
 
-    // Files the name of an object that had another count before.
-    fn refile(&mut self, name: Name, before: u64, count: u64)
+    /// The number of fields that refer to the object with this name, if there is one.
+    pub fn count(&self, name: Name) -> Option<u64>
+        ensures { result ≡ map.get self.now.counts.rows name }
+    {
+        match self.rows.get(name) {
+            Some(row) => Some(row.refs),
+            None => None,
+        }
+    }
+
+    /// The least name of a loose object, if there is one.
+    pub fn first_loose(&self) -> Option<Name>
+        ensures { result ≡ option_map (λ (e : Name × Unit {0}). e.0) (slice_get (map.entries self.now.loose.rows) 0) }
+    {
+        self.loose.first_name()
+    }
+
+    /// The least name of a shared object, if there is one.
+    pub fn first_shared(&self) -> Option<Name>
+        ensures { result ≡ option_map (λ (e : Name × Unit {0}). e.0) (slice_get (map.entries self.now.shared.rows) 0) }
+    {
+        self.shared.first_name()
+    }
+
+    /// The names of the objects with the objects, in the order of names.
+    pub fn iter(&self) -> HeapIter<'_>
+        ensures { result ≡ map.entries self.now.objects.rows }
+    {
+        HeapIter {
+            rows: self.rows.iter(),
+        }
+    }
+
+    /// The number of objects.
+    pub fn len(&self) -> usize
+        ensures { result ≡ map.len self.now.objects.rows }
+    {
+        self.rows.len()
+    }
+
+    /// Whether there is memory for so many more objects.
+    pub fn has_room_for(&self, more: usize) -> bool
+        ensures { IsTrue result ↔ (map.len self.now.objects.rows + more ≤ self.now.objects.room) }
+    {
+        self.rows.has_room_for(more)
+    }
+
+    /// Whether there is no memory for another object.
+    pub fn is_full(&self) -> bool
+        ensures { IsTrue result ↔ (self.now.objects.room ≤ map.len self.now.objects.rows) }
+    {
+        self.rows.is_full()
+    }
+
+    /// Writes a field of an object, and answers the value that it had. Nothing changes where there is no such object or
+    /// field. What the values refer to stays as it was counted.
+    pub fn replace_field(&mut self, name: Name, field: usize, value: Value) -> Option<Value>
+        ensures before { result ≡ option_and_then (λ (object : Obj). slice_get object.fields field) (map.get self.old.objects.rows name) }
+        ensures written { self.new ≡ record self.old { objects = record self.old.objects { rows = with_field self.old.objects.rows name field value } } }
+    {
+        self.rows.replace_field(name, field, value)
+    }
+
+    /// Seals an object. Nothing changes where there is no such object.
+    pub fn seal(&mut self, name: Name)
+        requires filed { IsFiled self.old }
+        ensures filed { IsFiled self.new }
+        ensures counts { self.new.counts ≡ self.old.counts }
+        ensures objects { self.new.objects ≡ record self.old.objects { rows = with_seal self.old.objects.rows name } }
+    {
+        self.rows.seal(name);
+        self.loose.remove(name);
+        self.shared.remove(name);
+    }
+
+    /// Puts in an object that is not there, with the number of fields that refer to it. What its own fields refer to
+    /// stays as it was counted.
+    pub fn enter(&mut self, name: Name, object: Obj, refs: u64)
+        requires filed { IsFiled self.old }
+        requires absent { map.get self.old.objects.rows name ≡ None }
+        requires room { map.len self.old.objects.rows < self.old.objects.room }
+        ensures filed { IsFiled self.new }
+        ensures counts { self.new.counts.rows ≡ map.insert self.old.counts.rows name refs }
+        ensures objects { self.new.objects ≡ record self.old.objects { rows = map.insert self.old.objects.rows name object } }
+    {
+        let is_open = is_open(name, object.sealed);
+        self.rows.put(name, Row { refs, object });
+        mark(&mut self.loose, name, is_open, refs == 0);
+        mark(&mut self.shared, name, is_open, refs >= 2);
+    }
+
+    // Files the name of an object that had another number before.
+    fn refile(&mut self, name: Name, is_open: bool, before: u64, count: u64)
         requires filed { IsFiled (with_count name before self.old) }
         requires now { map.get self.old.counts.rows name ≡ Some count }
+        requires opened { open_at name (map.get self.old.objects.rows name) ≡ is_open }
         ensures filed { IsFiled self.new }
         ensures counts { self.new.counts ≡ self.old.counts }
         ensures objects { self.new.objects ≡ self.old.objects }
     {
-        remark(
-            &mut self.loose,
-            &self.objects,
-            name,
-            before == 0,
-            count == 0,
-        );
-        remark(
-            &mut self.shared,
-            &self.objects,
-            name,
-            before >= 2,
-            count >= 2,
-        );
+        remark(&mut self.loose, name, is_open, before == 0, count == 0);
+        remark(&mut self.shared, name, is_open, before >= 2, count >= 2);
     }
 
     /// Counts a value that a field holds now. Answers whether what it refers to is there.
@@ -89,10 +179,9 @@ impl Census {
         let Some(target) = target_in(value) else {
             return true;
         };
-        let guess = self.objects.guess(target);
-        match self.counts.recount(target, guess, 1, 0) {
-            Some(before) => {
-                self.refile(target, before, before + 1);
+        match self.rows.recount(target, 1, 0) {
+            Some((before, sealed)) => {
+                self.refile(target, is_open(target, sealed), before, before + 1);
                 true
             }
             None => false,
@@ -109,9 +198,13 @@ impl Census {
         let Some(target) = target_in(value) else {
             return;
         };
-        let guess = self.objects.guess(target);
-        if let Some(before) = self.counts.recount(target, guess, 0, 1) {
-            self.refile(target, before, before.saturating_sub(1));
+        if let Some((before, sealed)) = self.rows.recount(target, 0, 1) {
+            self.refile(
+                target,
+                is_open(target, sealed),
+                before,
+                before.saturating_sub(1),
+            );
         }
     }
 
@@ -144,19 +237,20 @@ impl Census {
         }
     }
 
-    /// Takes an object out, and leaves what its fields refer to as it was counted.
-    pub fn take(&mut self, name: Name) -> Option<Obj>
+    /// Takes an object out with the number of fields that refer to it, and leaves what its own fields refer to as it was
+    /// counted.
+    pub fn take(&mut self, name: Name) -> Option<Row>
         requires filed { IsFiled self.old }
         ensures filed { IsFiled self.new }
-        ensures taken { result ≡ map.get self.old.objects.rows name }
+        ensures taken { option_map (λ (row : Row). row.object) result ≡ map.get self.old.objects.rows name }
+        ensures refs { option_map (λ (row : Row). row.refs) result ≡ map.get self.old.counts.rows name }
         ensures counts { self.new.counts.rows ≡ map.remove self.old.counts.rows name }
         ensures objects { self.new.objects ≡ record self.old.objects { rows = map.remove self.old.objects.rows name } }
     {
-        let object = self.objects.remove(name);
-        self.counts.remove(name);
+        let row = self.rows.remove(name)?;
         self.loose.remove(name);
         self.shared.remove(name);
-        object
+        Some(row)
     }
 }
 
@@ -170,14 +264,11 @@ fn target_in(value: Value) -> Option<Name>
     }
 }
 
-// Whether the object of this name is there, hidden and unsealed.
-fn is_open(objects: &Table<Obj>, name: Name) -> bool
-    ensures { result ≡ open_at name (map.get objects.now.rows name) }
+// Whether an object of this name is hidden and unsealed.
+fn is_open(name: Name, sealed: bool) -> bool
+    ensures { result ≡ (nat_lt 0 name.ticket && (if sealed then false else true)) }
 {
-    match objects.get(name) {
-        Some(object) => name.ticket > 0 && !object.sealed,
-        None => false,
-    }
+    name.ticket > 0 && !sealed
 }
 
 // Puts a name among others where it is of an open object that fits, or else takes it away.
@@ -193,15 +284,14 @@ fn mark(names: &mut Marks, name: Name, is_open: bool, fits: bool)
 }
 
 // Marks a name where what is told of its count changes.
-fn remark(names: &mut Marks, objects: &Table<Obj>, name: Name, fitted: bool, fits: bool)
-    requires before { map.contains_key names.old.rows name ≡ (open_at name (map.get objects.now.rows name) && fitted) }
+fn remark(names: &mut Marks, name: Name, is_open: bool, fitted: bool, fits: bool)
+    requires before { map.contains_key names.old.rows name ≡ (is_open && fitted) }
     requires room { map.get names.old.rows name ≡ None → map.len names.old.rows < names.old.room }
-    ensures here { map.contains_key names.new.rows name ≡ (open_at name (map.get objects.now.rows name) && fits) }
+    ensures here { map.contains_key names.new.rows name ≡ (is_open && fits) }
     ensures beside { (n : Name) → eq_by_cmp name_cmp n name ≡ false → map.contains_key names.new.rows n ≡ map.contains_key names.old.rows n }
     ensures room { names.new.room ≡ names.old.room }
 {
     if fitted != fits {
-        let is_open = fits && is_open(objects, name);
         mark(names, name, is_open, fits);
     }
 }

@@ -13,11 +13,10 @@ ghost use Rattle.dl_ir.specs.declared.names.Name.{Name};
 ghost use Rattle.dl_ir.specs.declared.objects.Obj.{Obj};
 
 use crate::census::Census;
-use crate::iterators::TableIter;
+use crate::iterators::HeapIter;
 use crate::modules::{KindDecl, Module};
 use crate::names::{Name, Value};
 use crate::objects::Obj;
-use crate::tables::Table;
 use std::alloc::{AllocError, Global};
 use std::marker::Model;
 
@@ -77,7 +76,7 @@ impl Heap {
     pub fn get(&self, name: Name) -> Option<&Obj>
         ensures { option_copied result ≡ map.get self.now.objects name }
     {
-        self.census.objects.get(name)
+        self.census.get(name)
     }
 
     /// The number of fields that refer to the object of this name. It is looked up, and counted only where there is
@@ -86,15 +85,22 @@ impl Heap {
         ensures count { result ≡ refs self.now.objects name }
         ensures small { result ≤ 2 ^ 52 }
     {
-        match self.census.counts.get(name) {
-            Some(count) => *count,
-            None => {
-                if self.may_dangle {
-                    fields_that_refer(&self.census.objects, name)
-                } else {
-                    0
-                }
-            }
+        match self.census.count(name) {
+            Some(count) => count,
+            None => self.refs_to_absent(name),
+        }
+    }
+
+    // The number of fields that refer to a name that no object has.
+    fn refs_to_absent(&self, name: Name) -> u64
+        requires { map.get self.now.objects name ≡ None }
+        ensures count { result ≡ refs self.now.objects name }
+        ensures small { result ≤ 2 ^ 52 }
+    {
+        if self.may_dangle {
+            fields_that_refer(&self.census, name)
+        } else {
+            0
         }
     }
 
@@ -102,7 +108,7 @@ impl Heap {
     pub fn set_field(&mut self, name: Name, field: usize, value: Value)
         ensures { self.new ≡ record self.old { objects = with_field self.old.objects name field value } }
     {
-        if let Some(before) = self.census.objects.replace_field(name, field, value) {
+        if let Some(before) = self.census.replace_field(name, field, value) {
             self.census.lose(before);
             let there = self.census.gain(value);
             self.may_dangle |= !there;
@@ -124,11 +130,10 @@ impl Heap {
         requires room { map.len self.old.objects < self.old.room }
         ensures { self.new ≡ record self.old { objects = map.insert self.old.objects name object } }
     {
-        let refs = self.refs(name);
+        let refs = self.refs_to_absent(name);
         let there = self.census.gain_all(object.fields.as_slice());
         let own = count_in(object.fields.as_slice(), name);
-        self.census.objects.put(name, object);
-        self.census.file(name, refs + own);
+        self.census.enter(name, object, refs + own);
         self.may_dangle |= !there;
     }
 
@@ -136,13 +141,9 @@ impl Heap {
     pub fn remove(&mut self, name: Name)
         ensures { self.new ≡ record self.old { objects = map.remove self.old.objects name } }
     {
-        if self.get(name).is_none() {
-            return;
-        }
-        let refs = self.refs(name);
-        if let Some(object) = self.census.take(name) {
-            self.census.lose_all(object.fields.as_slice());
-            self.may_dangle |= refs > 0;
+        if let Some(row) = self.census.take(name) {
+            self.census.lose_all(row.object.fields.as_slice());
+            self.may_dangle |= row.refs > 0;
         }
     }
 
@@ -150,45 +151,42 @@ impl Heap {
     pub fn seal(&mut self, name: Name)
         ensures { self.new ≡ record self.old { objects = with_seal self.old.objects name } }
     {
-        if let Some(count) = count_of(&self.census.counts, name) {
-            self.census.objects.seal(name);
-            self.census.file(name, count);
-        }
+        self.census.seal(name);
     }
 
     /// The least name of a hidden unsealed object to which no field refers, if there is one.
     pub fn first_loose(&self) -> Option<Name>
         ensures { result ≡ first_name (is_loose self.now.objects) self.now.objects }
     {
-        self.census.loose.first_name()
+        self.census.first_loose()
     }
 
     /// The least name of a hidden unsealed object to which two fields or more refer, if there is one.
     pub fn first_shared(&self) -> Option<Name>
         ensures { result ≡ first_name (is_shared self.now.objects) self.now.objects }
     {
-        self.census.shared.first_name()
+        self.census.first_shared()
     }
 
     /// The names of the objects with the objects, in the order of names.
-    pub fn iter(&self) -> TableIter<'_, Obj>
+    pub fn iter(&self) -> HeapIter<'_>
         ensures { result ≡ map.entries self.now.objects }
     {
-        self.census.objects.iter()
+        self.census.iter()
     }
 
     /// The number of objects.
     pub fn len(&self) -> usize
         ensures { result ≡ map.len self.now.objects }
     {
-        self.census.objects.len()
+        self.census.len()
     }
 
     /// The number of hidden objects. It looks at each name.
     pub fn hidden_len(&self) -> usize
         ensures { result ≡ hidden_count self.now.objects }
     {
-        hidden_in(&self.census.objects)
+        hidden_in(&self.census)
     }
 
     pub fn is_empty(&self) -> bool
@@ -201,14 +199,14 @@ impl Heap {
     pub fn has_room_for(&self, more: usize) -> bool
         ensures { IsTrue result ↔ (map.len self.now.objects + more ≤ self.now.room) }
     {
-        self.census.objects.has_room_for(more)
+        self.census.has_room_for(more)
     }
 
     /// Whether there is no memory for another object.
     pub fn is_full(&self) -> bool
         ensures { IsTrue result ↔ (self.now.room ≤ map.len self.now.objects) }
     {
-        self.census.objects.is_full()
+        self.census.is_full()
     }
 }
 
@@ -218,36 +216,26 @@ fn one_if(holds: bool) -> usize
     if holds { 1 } else { 0 }
 }
 
-// The count of a name, if it has one.
-fn count_of(counts: &Table<u64>, name: Name) -> Option<u64>
-    ensures { result ≡ map.get counts.now.rows name }
-{
-    match counts.get(name) {
-        Some(count) => Some(*count),
-        None => None,
-    }
-}
-
 // The number of hidden objects, counted.
-fn hidden_in(objects: &Table<Obj>) -> usize
-    requires { map.len objects.now.rows ≤ 2 ^ 48 }
-    ensures { result ≡ hidden_count objects.now.rows }
+fn hidden_in(census: &Census) -> usize
+    requires { map.len census.now.objects.rows ≤ 2 ^ 48 }
+    ensures { result ≡ hidden_count census.now.objects.rows }
 {
     let mut hidden = 0;
-    for (name, _) in objects.iter() {
+    for (name, _) in census.iter() {
         hidden += one_if(name.ticket > 0);
     }
     hidden
 }
 
 // The number of fields that refer to this name, counted.
-fn fields_that_refer(objects: &Table<Obj>, name: Name) -> u64
-    requires fields { HasFewFields objects.now.rows }
-    requires few { map.len objects.now.rows ≤ 2 ^ 48 }
-    ensures { result ≡ refs objects.now.rows name }
+fn fields_that_refer(census: &Census, name: Name) -> u64
+    requires fields { HasFewFields census.now.objects.rows }
+    requires few { map.len census.now.objects.rows ≤ 2 ^ 48 }
+    ensures { result ≡ refs census.now.objects.rows name }
 {
     let mut count = 0;
-    for (_, object) in objects.iter() {
+    for (_, object) in census.iter() {
         count += count_in(object.fields.as_slice(), name);
     }
     count

@@ -1,8 +1,10 @@
-//! Walks through tables.
+//! Walks through tables, and through heaps.
 
 ghost use Rattle.std.specs.Prelude.{◌≡◌};
 
 use crate::names::Name;
+use crate::objects::Obj;
+use crate::rows::Row;
 use std::marker::Model;
 
 /// The names of a table with their values, in the order of names.
@@ -39,5 +41,40 @@ impl<'a, V> Iterator for TableIter<'a, V> {
             }
         }
         None
+    }
+}
+
+/// The names of a heap with their objects, in the order of names.
+#[derive(Drop)]
+pub struct HeapIter<'a> {
+    pub(crate) rows: TableIter<'a, Row>,
+}
+
+impl<'a> Model for HeapIter<'a> {
+    ghost use Rattle.std.specs.Prelude.{List};
+    ghost use Rattle.dl_ir.specs.declared.names.Name.{Name};
+    ghost use Rattle.dl_ir.specs.declared.objects.Obj.{Obj};
+    ghost use Rattle.dl_ir.specs.Counted.{objects_along};
+
+    ghost Value = { List (Name × Obj) };
+
+    ghost view = { λ iter. objects_along iter.rows };
+}
+
+impl<'a> Iterator for HeapIter<'a> {
+    ghost use Rattle.std.specs.Prelude.{length};
+    ghost use Rattle.std.specs.Iterator.{YieldsFirstBy, at_most};
+
+    type Item = (Name, &'a Obj);
+
+    ghost next_gives = { YieldsFirstBy (λ entry. (entry.0, entry.1.now)) (λ iter. iter) };
+
+    ghost remaining = { λ iter. at_most (length iter) };
+
+    fn next(&mut self) -> Option<(Name, &'a Obj)> {
+        match self.rows.next() {
+            Some((name, row)) => Some((name, &row.object)),
+            None => None,
+        }
     }
 }

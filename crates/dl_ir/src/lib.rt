@@ -16,6 +16,7 @@ mod modules;
 mod moves;
 mod names;
 mod objects;
+mod rows;
 mod statements;
 mod tables;
 
@@ -25,7 +26,7 @@ pub use closed::Closed;
 pub use emits::Emits;
 pub use expressions::{Cond, Expr, Op, RefSide, Rel};
 pub use heaps::Heap;
-pub use iterators::TableIter;
+pub use iterators::{HeapIter, TableIter};
 pub use modules::{FieldDecl, KindDecl, LocalDecl, Module, OpDecl, Text, Ty};
 pub use moves::Move;
 pub use names::{Name, Value};

@@ -10,8 +10,9 @@ use std::marker::Model;
 /// The values of an object's fields, at most 16, in the order of declaration. They take no memory of their own.
 #[derive(Debug, Drop)]
 pub struct Fields {
-    cells: [Value; 16],
+    // Before the values, so that it lies beside the first of them in memory.
     len: usize,
+    cells: [Value; 16],
 }
 
 impl Model for Fields {
@@ -34,8 +35,8 @@ impl Fields {
         ensures { result ≡ [] }
     {
         Fields {
-            cells: [Value::Int(0); 16],
             len: 0,
+            cells: [Value::Int(0); 16],
         }
     }
 

@@ -3,16 +3,17 @@
 ghost use Rattle.std.specs.Prelude.{◌≡◌, ◌↔◌, true, [], ◌+◌, ◌-◌, ◌^◌, ◌<◌, ◌≤◌, ℕ, IsTrue, IfOk, IfErr, None, Some, Option, option_and_then, length, take, slice_get, slice_set, vec_capacity};
 ghost use Rattle.std.specs.Option.{option_copied, option_map, option_map_or};
 ghost use Rattle.std.specs.FinMap as map;
-ghost use Rattle.dl_ir.specs.Heap.{name_cmp, with_field};
-ghost use Rattle.dl_ir.specs.References.{with_seal};
+ghost use Rattle.dl_ir.specs.Counted.{row_with, sealed_row, recounted_row};
+ghost use Rattle.dl_ir.specs.Heap.{name_cmp};
 ghost use Rattle.dl_ir.specs.Places.{IsAt, IsGap, present};
+ghost use Rattle.dl_ir.specs.Rows.{changed};
 ghost use Rattle.dl_ir.specs.declared.names.Name.{Name};
-ghost use Rattle.dl_ir.specs.declared.objects.Obj.{Obj};
+ghost use Rattle.dl_ir.specs.declared.rows.Row.{Row};
 
 use crate::hints::Hints;
 use crate::iterators::TableIter;
 use crate::names::{Name, Value};
-use crate::objects::Obj;
+use crate::rows::Row;
 use std::alloc::{AllocError, Global};
 use std::marker::Model;
 
@@ -35,7 +36,6 @@ impl<V> Model for Table<V> {
     ghost use Rattle.std.specs.FinMap as map;
     ghost use Rattle.std.specs.Prelude.{vec_capacity};
     ghost use Rattle.dl_ir.specs.Rows.{Rows, coded_rows};
-    ghost use Rattle.dl_ir.specs.References.{with_seal};
     ghost use Rattle.dl_ir.specs.Places.{IsTable, present};
 
     ghost Value = { Rows V };
@@ -73,11 +73,6 @@ impl<V> Table<V> {
             Ok(at) => self.entries[at].1.as_ref(),
             Err(_) => None,
         }
-    }
-
-    /// A place at which the name may stand, here or in a table that had the same names put in.
-    pub(crate) fn guess(&self, name: Name) -> usize {
-        self.hints.guess(name)
     }
 
     /// The least name, if there is one.
@@ -162,19 +157,12 @@ impl<V: Drop> Table<V> {
     }
 }
 
-impl Table<Obj> {
-    /// Writes a field of an object. Nothing changes where there is no such object or field.
-    pub fn set_field(&mut self, name: Name, field: usize, value: Value)
-        ensures { self.new ≡ record self.old { rows = with_field self.old.rows name field value } }
-    {
-        self.replace_field(name, field, value);
-    }
-
+impl Table<Row> {
     /// Writes a field of an object, and answers the value that it had. Nothing changes where there is no such object or
     /// field.
     pub(crate) fn replace_field(&mut self, name: Name, field: usize, value: Value) -> Option<Value>
-        ensures before { result ≡ option_and_then (λ (object : Obj). slice_get object.fields field) (map.get self.old.rows name) }
-        ensures written { self.new ≡ record self.old { rows = with_field self.old.rows name field value } }
+        ensures before { result ≡ option_and_then (λ (row : Row). slice_get row.object.fields field) (map.get self.old.rows name) }
+        ensures written { self.new ≡ record self.old { rows = changed self.old.rows name (row_with field value) } }
     {
         match place_near(&self.entries, self.hints.guess(name), name) {
             Ok(at) => set_at(&mut self.entries, at, field, value),
@@ -183,25 +171,22 @@ impl Table<Obj> {
     }
 
     /// Seals an object. Nothing changes where there is no such object.
-    pub fn seal(&mut self, name: Name)
-        ensures { self.new ≡ record self.old { rows = with_seal self.old.rows name } }
+    pub(crate) fn seal(&mut self, name: Name)
+        ensures { self.new ≡ record self.old { rows = changed self.old.rows name sealed_row } }
     {
         if let Ok(at) = place_near(&self.entries, self.hints.guess(name), name) {
             seal_at(&mut self.entries, at);
         }
     }
-}
 
-impl Table<u64> {
-    /// Adds to the number under a name and then takes away from it, down to 0, and answers what it was. Nothing changes
-    /// where the name has none. The name is looked for at the guessed place first.
-    pub(crate) fn recount(&mut self, name: Name, guess: usize, more: u64, fewer: u64) -> Option<u64>
-        requires { (count : ℕ) → map.get self.old.rows name ≡ Some count → 0 < more → count + more < 2 ^ 64 }
-        ensures before { result ≡ map.get self.old.rows name }
-        ensures recounted { (count : ℕ) → map.get self.old.rows name ≡ Some count → self.new ≡ record self.old { rows = map.insert self.old.rows name (count + more - fewer) } }
-        ensures absent { map.get self.old.rows name ≡ None → self.new ≡ self.old }
+    /// Adds to the number of an object and then takes away from it, down to 0, and answers what it was and whether the
+    /// object is sealed. Nothing changes where there is no such object.
+    pub(crate) fn recount(&mut self, name: Name, more: u64, fewer: u64) -> Option<(u64, bool)>
+        requires { (row : Row) → map.get self.old.rows name ≡ Some row → 0 < more → row.refs + more < 2 ^ 64 }
+        ensures before { result ≡ option_map (λ (row : Row). (row.refs, row.object.sealed)) (map.get self.old.rows name) }
+        ensures recounted { self.new ≡ record self.old { rows = changed self.old.rows name (recounted_row more fewer) } }
     {
-        match place_near(&self.entries, guess, name) {
+        match place_near(&self.entries, self.hints.guess(name), name) {
             Ok(at) => recount_at(&mut self.entries, at, more, fewer),
             Err(_) => None,
         }
@@ -346,56 +331,57 @@ fn take_at<V>(entries: &mut Vec<(Name, Option<V>)>, at: usize) -> Option<V>
 
 // Writes a field of the object at a place, if there is one, and answers the value that it had.
 fn set_at(
-    entries: &mut Vec<(Name, Option<Obj>)>,
+    entries: &mut Vec<(Name, Option<Row>)>,
     at: usize,
     field: usize,
     value: Value,
 ) -> Option<Value>
     requires { at < length entries.old.items }
-    ensures before { (e : Name × Option Obj) → slice_get entries.old.items at ≡ Some e → result ≡ option_and_then (λ (object : Obj). slice_get object.fields field) e.1 }
-    ensures field { (e : Name × Option Obj) → slice_get entries.old.items at ≡ Some e → entries.new.items ≡ slice_set entries.old.items at (e.0, option_map (λ (object : Obj). record object { fields = slice_set object.fields field value }) e.1) }
+    ensures before { (e : Name × Option Row) → slice_get entries.old.items at ≡ Some e → result ≡ option_and_then (λ (row : Row). slice_get row.object.fields field) e.1 }
+    ensures field { (e : Name × Option Row) → slice_get entries.old.items at ≡ Some e → entries.new.items ≡ slice_set entries.old.items at (e.0, option_map (row_with field value) e.1) }
     ensures capacity { vec_capacity entries.new ≡ vec_capacity entries.old }
 {
     match &mut entries[at].1 {
-        Some(object) => {
-            let before = object.fields.get(field);
-            object.fields.set(field, value);
+        Some(row) => {
+            let before = row.object.fields.get(field);
+            row.object.fields.set(field, value);
             before
         }
         None => None,
     }
 }
 
-// Adds to the number at a place and then takes away from it, and answers what it was, if there is one.
+// Adds to the number at a place and then takes away from it, and answers what it was and whether the object is sealed, if
+// there is one.
 fn recount_at(
-    entries: &mut Vec<(Name, Option<u64>)>,
+    entries: &mut Vec<(Name, Option<Row>)>,
     at: usize,
     more: u64,
     fewer: u64,
-) -> Option<u64>
+) -> Option<(u64, bool)>
     requires within { at < length entries.old.items }
-    requires fits { (e : Name × Option ℕ) (count : ℕ) → slice_get entries.old.items at ≡ Some e → e.1 ≡ Some count → 0 < more → count + more < 2 ^ 64 }
-    ensures before { (e : Name × Option ℕ) → slice_get entries.old.items at ≡ Some e → result ≡ e.1 }
-    ensures recounted { (e : Name × Option ℕ) → slice_get entries.old.items at ≡ Some e → entries.new.items ≡ slice_set entries.old.items at (e.0, option_map (λ (count : ℕ). count + more - fewer) e.1) }
+    requires fits { (e : Name × Option Row) (row : Row) → slice_get entries.old.items at ≡ Some e → e.1 ≡ Some row → 0 < more → row.refs + more < 2 ^ 64 }
+    ensures before { (e : Name × Option Row) → slice_get entries.old.items at ≡ Some e → result ≡ option_map (λ (row : Row). (row.refs, row.object.sealed)) e.1 }
+    ensures recounted { (e : Name × Option Row) → slice_get entries.old.items at ≡ Some e → entries.new.items ≡ slice_set entries.old.items at (e.0, option_map (recounted_row more fewer) e.1) }
     ensures capacity { vec_capacity entries.new ≡ vec_capacity entries.old }
 {
     match &mut entries[at].1 {
-        Some(count) => {
-            let before = *count;
-            *count = (before + more).saturating_sub(fewer);
-            Some(before)
+        Some(row) => {
+            let before = row.refs;
+            row.refs = (before + more).saturating_sub(fewer);
+            Some((before, row.object.sealed))
         }
         None => None,
     }
 }
 
 // Seals the object at a place, if there is one.
-fn seal_at(entries: &mut Vec<(Name, Option<Obj>)>, at: usize)
+fn seal_at(entries: &mut Vec<(Name, Option<Row>)>, at: usize)
     requires { at < length entries.old.items }
-    ensures sealed { (e : Name × Option Obj) → slice_get entries.old.items at ≡ Some e → entries.new.items ≡ slice_set entries.old.items at (e.0, option_map (λ (object : Obj). record object { sealed = true }) e.1) }
+    ensures sealed { (e : Name × Option Row) → slice_get entries.old.items at ≡ Some e → entries.new.items ≡ slice_set entries.old.items at (e.0, option_map sealed_row e.1) }
     ensures capacity { vec_capacity entries.new ≡ vec_capacity entries.old }
 {
-    if let Some(object) = &mut entries[at].1 {
-        object.sealed = true;
+    if let Some(row) = &mut entries[at].1 {
+        row.object.sealed = true;
     }
 }

@@ -5,4 +5,4 @@ use Rattle.dl_ir.proofs.Keeping.{in_object}
 use Rattle.dl_ir.proofs.heaps.fields_that_refer.Given as goal
 
 abbrev pub invariant-loop-object : goal.invariant-loop-object
-invariant-loop-object l = l.count + sum_by (in_object l.name) l.object-iterator ≡ sum_by (in_object l.name) (map.entries l.objects.rows)
+invariant-loop-object l = l.count + sum_by (in_object l.name) l.object-iterator ≡ sum_by (in_object l.name) (map.entries l.census.objects.rows)

@@ -6,4 +6,4 @@ use Rattle.dl_ir.specs.declared.objects.Obj.{Obj}
 use Rattle.dl_ir.proofs.heaps.hidden_in.Given as goal
 
 abbrev pub invariant-loop-name : goal.invariant-loop-name
-invariant-loop-name l = l.hidden + count_by (λ (e : Name × Obj). nat_lt 0 e.0.ticket) l.name-iterator ≡ count_by (λ (e : Name × Obj). nat_lt 0 e.0.ticket) (entries l.objects.rows)
+invariant-loop-name l = l.hidden + count_by (λ (e : Name × Obj). nat_lt 0 e.0.ticket) l.name-iterator ≡ count_by (λ (e : Name × Obj). nat_lt 0 e.0.ticket) (entries l.census.objects.rows)

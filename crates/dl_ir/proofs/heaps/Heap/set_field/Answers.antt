@@ -9,13 +9,13 @@ lose-requires c =
 
 pub gain-there-requires-clause-few : goal.gain-there-requires-clause-few
 gain-there-requires-clause-few c =
-    lost_few c.self.inside.census c.self.inside.may_dangle c.self.invariant c.args.name c.args.field c.in-Some.before c.args.value c.in-Some.ensures.before c.lose.new.self.counts.rows c.lose.ensures.counts
+    lost_few c.self.inside.census c.self.inside.may_dangle c.self.invariant c.args.name c.args.field c.in-Some.before c.args.value c.in-Some.ensures.before c.lose.new.self.counts.rows (rw c.in-Some.ensures.written at c.lose.ensures.counts)
 
 pub invariant_of-self : goal.invariant_of-self
 invariant_of-self c =
     kept_field c.self.inside.census c.self.inside.may_dangle c.self.invariant c.args.name c.args.field c.in-Some.before c.args.value c.in-Some.ensures.before
     c.gain-there.new.self c.lose.new.self.counts.rows c.gain-there.result
-    (rw (c.gain-there.ensures.objects, c.lose.ensures.objects, c.in-Some.ensures.written) refl) c.gain-there.ensures.filed c.lose.ensures.counts c.gain-there.ensures.counts
+    (rw (c.gain-there.ensures.objects, c.lose.ensures.objects, c.in-Some.ensures.written) refl) c.gain-there.ensures.filed (rw c.in-Some.ensures.written at c.lose.ensures.counts) c.gain-there.ensures.counts
     (rw (c.lose.ensures.objects, c.in-Some.ensures.written) at c.gain-there.ensures.there)
 
 pub invariant_of-self-in_default : goal.invariant_of-self-in_default

@@ -1,32 +1,27 @@
-use Rattle.std.proofs.Common.{◌≡◌, ℕ, set, refl, ap, sym, ◌∙◌, Option, Some, None}
+use Rattle.std.proofs.Common.{set, ap, sym, ◌∙◌}
 use Rattle.std.specs.Prelude.{option_and_then, slice_get}
 use Rattle.std.specs.Option.{option_map}
 use Rattle.dl_ir.specs.declared.names.Name.{Name}
-use Rattle.dl_ir.specs.declared.names.Value.{Value}
-use Rattle.dl_ir.specs.declared.objects.Obj.{Obj}
-use Rattle.dl_ir.specs.Heap.{Objects, with_field_of}
+use Rattle.dl_ir.specs.declared.rows.Row.{Row}
+use Rattle.dl_ir.specs.Counted.{row_with}
 use Rattle.dl_ir.specs.Places.{IsAt}
+use Rattle.dl_ir.specs.Rows.{changed_of}
 use Rattle.dl_ir.proofs.Edits.{at_within}
 use Rattle.dl_ir.proofs.SortedEntries.{holds}
 use Rattle.dl_ir.proofs.Present.{rows}
-use Rattle.dl_ir.proofs.TableEdits.{entry, absent, changed, after, table-after}
-use Rattle.dl_ir.proofs.tables.Table+Obj.replace_field.Goals as goal
-
-is_written : (rows : Objects) (k : Name) (field : ℕ) (value : Value) (o : Option Obj) → changed rows k (λ object. record object { fields = set object.fields field value }) o ≡ with_field_of rows k field value o
-is_written rows k field value None = refl
-is_written rows k field value (Some object) = refl
+use Rattle.dl_ir.proofs.TableEdits.{entry, absent, after, table-after}
+use Rattle.dl_ir.proofs.tables.Table+Row.replace_field.Goals as goal
 
 pub set_at-requires : goal.set_at-requires
 set_at-requires c =
     let items = c.self.inside.entries.items in
-    let change : Obj → Obj = λ object. record object { fields = set object.fields c.args.field c.args.value } in
     let found : IsAt c.args.name items c.in-Ok.at = rw c.deref.ensures.value at c.in-Ok.ensures.found in
     at_within c.args.name items c.in-Ok.at (holds _ c.self.invariant.sorted) found
 
 pub invariant_of-self : goal.invariant_of-self
 invariant_of-self c =
     let items = c.self.inside.entries.items in
-    let change : Obj → Obj = λ object. record object { fields = set object.fields c.args.field c.args.value } in
+    let change = row_with c.args.field c.args.value in
     let found : IsAt c.args.name items c.in-Ok.at = rw c.deref.ensures.value at c.in-Ok.ensures.found in
     let e = entry c.self.invariant c.args.name c.in-Ok.at found in
     let after-it = c.set_at.ensures.field e.0 e.1 ∙ ap (λ (n : Name). set items c.in-Ok.at (n, option_map change e.0.1)) e.2 in
@@ -37,26 +32,25 @@ returns-in-Ok-clause-before c =
     let items = c.self.inside.entries.items in
     let found : IsAt c.args.name items c.in-Ok.at = rw c.deref.ensures.value at c.in-Ok.ensures.found in
     let e = entry c.self.invariant c.args.name c.in-Ok.at found in
-    rw (← c.self.view_is) (c.set_at.ensures.before e.0 e.1 ∙ ap (option_and_then (λ (object : Obj). slice_get object.fields c.args.field)) (sym e.3))
+    rw (← c.self.view_is) (c.set_at.ensures.before e.0 e.1 ∙ ap (option_and_then (λ (row : Row). slice_get row.object.fields c.args.field)) (sym e.3))
 
 pub returns-in-Ok-clause-written : goal.returns-in-Ok-clause-written
 returns-in-Ok-clause-written c =
     let items = c.self.inside.entries.items in
-    let change : Obj → Obj = λ object. record object { fields = set object.fields c.args.field c.args.value } in
+    let change = row_with c.args.field c.args.value in
     let found : IsAt c.args.name items c.in-Ok.at = rw c.deref.ensures.value at c.in-Ok.ensures.found in
     let e = entry c.self.invariant c.args.name c.in-Ok.at found in
     let after-it = c.set_at.ensures.field e.0 e.1 ∙ ap (λ (n : Name). set items c.in-Ok.at (n, option_map change e.0.1)) e.2 in
     rw (← c.self.view_is, after-it) (ap (λ rows. record { rows = rows; room = c.self.inside.room }) (
-    after c.self.invariant c.args.name c.in-Ok.at found change ∙ is_written (rows items) c.args.name c.args.field c.args.value e.0.1
-    ∙ ap (with_field_of (rows items) c.args.name c.args.field c.args.value) (sym e.3)))
+    after c.self.invariant c.args.name c.in-Ok.at found change ∙ ap (changed_of (rows items) c.args.name change) (sym e.3)))
 
 pub returns-in-Err-clause-before : goal.returns-in-Err-clause-before
 returns-in-Err-clause-before c =
     let gap = rw c.deref.ensures.value at c.in-Err.ensures.absent in
-    rw (← c.self.view_is) (ap (option_and_then (λ (object : Obj). slice_get object.fields c.args.field)) (sym (absent c.self.invariant _ _ gap)))
+    rw (← c.self.view_is) (ap (option_and_then (λ (row : Row). slice_get row.object.fields c.args.field)) (sym (absent c.self.invariant _ _ gap)))
 
 pub returns-in-Err-clause-written : goal.returns-in-Err-clause-written
 returns-in-Err-clause-written c =
     let gap = rw c.deref.ensures.value at c.in-Err.ensures.absent in
     rw (← c.self.view_is) (ap (λ rows. record { rows = rows; room = c.self.inside.room }) (
-    ap (with_field_of (rows c.self.inside.entries.items) c.args.name c.args.field c.args.value) (sym (absent c.self.invariant _ _ gap))))
+    ap (changed_of (rows c.self.inside.entries.items) c.args.name (row_with c.args.field c.args.value)) (sym (absent c.self.invariant _ _ gap))))

@@ -1,0 +1,6 @@
+use Rattle.dl_ir.specs.Counted.{object_of}
+use Rattle.dl_ir.proofs.Mapped.{len-with_values}
+use Rattle.dl_ir.proofs.census.Census.is_full.Goals as goal
+
+pub returns : goal.returns
+returns c = rw (← c.self.view_is, len-with_values object_of c.self.inside.rows.rows) c.is_full.ensures

@@ -1,0 +1,7 @@
+use Rattle.std.proofs.Common.{sym, ◌∙◌}
+use Rattle.dl_ir.specs.Counted.{object_of}
+use Rattle.dl_ir.proofs.Mapped.{len-with_values}
+use Rattle.dl_ir.proofs.census.Census.len.Goals as goal
+
+pub returns : goal.returns
+returns c = rw (← c.self.view_is) (c.len.ensures ∙ sym (len-with_values object_of c.self.inside.rows.rows))
