@@ -12,12 +12,14 @@ use Rattle.dl_core.specs.declared.stages.Booked.{Booked}
 use Rattle.dl_core.specs.Heaps.{put_at}
 use Rattle.dl_core.specs.Frames.{Frame, Book, is_among, is_to_loosen, locals_to}
 use Rattle.dl_core.specs.Shown.{AreTidy, IsTidy}
-use Rattle.dl_core.proofs.Maps.{names, get_there}
-use Rattle.dl_core.proofs.Names.{name_itself, same_named, no_bool, both_true}
+use Rattle.dl_shape.proofs.Names.{names}
+use Rattle.dl_core.proofs.Maps.{get_there}
+use Rattle.dl_lemmas.proofs.Tests.{not_both, and_parts}
+use Rattle.dl_core.proofs.Names.{name_itself, same_named}
 
 -- the name that stands first is not among the others
 apart : (name other : Name) (others : List Name) → is_among name (other ∷ others) ≡ false → (name ≢ other) × (is_among name others ≡ false)
-apart name other others e = (λ same. no_bool (subst (λ n. is_among name (n ∷ others) ≡ true) same (here name others)) e, rest (name_eq name other) (is_among name others) e)
+apart name other others e = (λ same. not_both (subst (λ n. is_among name (n ∷ others) ≡ true) same (here name others)) e, rest (name_eq name other) (is_among name others) e)
   where
     here : (n : Name) (ns : List Name) → is_among n (n ∷ ns) ≡ true
     here n ns = rw (name_itself n) refl
@@ -50,7 +52,7 @@ few_loose book (name ∷ others) tidy =
 
     some_held : (b : Book) (n : Name) → finite.contains_key b n ≡ true → 0 < finite.len b
     some_held b n e = elim (zero_or (finite.len b)) [
-      | inl none ↦ absurd (no_bool (subst (λ m. finite.contains_key m n ≡ true) (empty_of_len b none) e) (ap is_some (get-empty name_cmp n)))
+      | inl none ↦ absurd (not_both (subst (λ m. finite.contains_key m n ≡ true) (empty_of_len b none) e) (ap is_some (get-empty name_cmp n)))
       | inr some ↦ some
     ]
 
@@ -68,8 +70,8 @@ tidy_more book (other ∷ others) name there e tidy =
 -- an object that is to be loose is held, and is not loose yet
 to_loosen : (frame : Frame) (name : Name) → is_to_loosen frame name ≡ true → (finite.contains_key frame.book name ≡ true) × (is_among name frame.loose ≡ false)
 to_loosen frame name e =
-    let parts = both_true (option_map_or (λ (booked : Booked). nat_le booked.fields 1) (finite.get frame.book name) false && (locals_to frame name == 0)) (not (is_among name frame.loose)) e in
-    (held (finite.get frame.book name) (both_true (option_map_or (λ (booked : Booked). nat_le booked.fields 1) (finite.get frame.book name) false) (locals_to frame name == 0) parts.0).0, none (is_among name frame.loose) parts.1)
+    let parts = and_parts (option_map_or (λ (booked : Booked). nat_le booked.fields 1) (finite.get frame.book name) false && (locals_to frame name == 0)) (not (is_among name frame.loose)) e in
+    (held (finite.get frame.book name) (and_parts (option_map_or (λ (booked : Booked). nat_le booked.fields 1) (finite.get frame.book name) false) (locals_to frame name == 0) parts.0).0, none (is_among name frame.loose) parts.1)
   where
     held : (found : Option Booked) → option_map_or (λ (booked : Booked). nat_le booked.fields 1) found false ≡ true → is_some found ≡ true
     held None f = f

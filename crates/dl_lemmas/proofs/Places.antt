@@ -1,9 +1,9 @@
 -- What stands at a place of a list.
-use Rattle.std.proofs.Common.{◌≡◌, ℕ, zero, suc, ◌+◌, ◌<◌, ◌⊎◌, inl, inr, List, [], ◌∷◌, ◌++◌, length, map, take, get_or, refl, ap, subst, Option, Some, None, arith, All, slice_get, slice_set}
+use Rattle.std.proofs.Common.{◌≡◌, ℕ, zero, suc, ◌<◌, ◌⊎◌, inl, inr, List, [], ◌∷◌, ◌++◌, length, map, take, get_or, replicate, refl, ap, subst, Option, Some, None, arith, All, slice_get, slice_set}
 use Rattle.std.specs.Prelude.{Contains}
 use Rattle.std.specs.Option.{option_map}
 use Rattle.std.proofs.lemmas.List.Elements.{All-get_or}
-use Rattle.std.proofs.lemmas.Option.{slice_get_within, slice_get_cases, slice_get-get_or, get_or_from_slice_get, same_Some}
+use Rattle.std.proofs.lemmas.Option.{slice_get_within, slice_get-get_or, get_or_from_slice_get, same_Some}
 
 -- one stands at each place
 pub one_at : {X : Type 0} (xs : List X) (i : ℕ) → i < length xs → (x : X) × (slice_get xs i ≡ Some x)
@@ -27,6 +27,12 @@ pub either_default : {X : Type 0} (xs : List X) (i : ℕ) (d e : X) → i < leng
 either_default [] i d e within = absurd (omega arith)
 either_default (x ∷ xs) zero d e within = refl
 either_default (x ∷ xs) (suc i) d e within = either_default xs i d e (omega arith)
+
+-- a list of one element over and over has it at each place
+pub same_everywhere : {X : Type 0} (n i : ℕ) (x : X) → get_or (replicate n x) i x ≡ x
+same_everywhere zero i x = refl
+same_everywhere (suc n) zero x = refl
+same_everywhere (suc n) (suc i) x = same_everywhere n i x
 
 -- ---- lists put together
 

@@ -3,9 +3,9 @@ use Rattle.std.proofs.Common.{◌≡◌, ℕ, ◌<◌, Bool, true, false, cond, 
 use Rattle.std.specs.Prelude.{find, sum_by, nat_lt, nat_le, if◌then◌else◌}
 use Rattle.std.specs.Option.{option_map}
 use Rattle.std.specs.Cmp.{Equal-is}
-use Rattle.std.specs.Ordering.{is_lt, eq_by_cmp}
+use Rattle.std.specs.Ordering.{eq_by_cmp}
 use Rattle.std.specs.FinMap as maps
-use Rattle.std.specs.FinMap.{is_sorted, entries_sorted, entries-from_sorted, get-from_sorted, get-entries, same_map, same_entries_map}
+use Rattle.std.specs.FinMap.{is_sorted, entries-from_sorted, get-from_sorted, get-entries, same_map, same_entries_map}
 use Rattle.std.proofs.Math.Bool.{or-true, or-false}
 use Rattle.dl_ir.specs.declared.names.Name.{Name}
 use Rattle.dl_ir.specs.declared.objects.Obj.{Obj}
