@@ -15,7 +15,8 @@ use Rattle.dl_core.specs.Shown.{AreTidy, IsTidy}
 use Rattle.dl_shape.proofs.Names.{names}
 use Rattle.dl_core.proofs.Maps.{get_there}
 use Rattle.dl_lemmas.proofs.Tests.{not_both, and_parts}
-use Rattle.dl_core.proofs.Names.{name_itself, same_named}
+use Rattle.dl_core.proofs.Names.{name_itself, same_named, name_differs}
+use Rattle.std.proofs.lemmas.Bool.{not-true}
 
 -- the name that stands first is not among the others
 apart : (name other : Name) (others : List Name) → is_among name (other ∷ others) ≡ false → (name ≢ other) × (is_among name others ≡ false)
@@ -61,25 +62,18 @@ tidy_more : (book : Book) (loose : List Name) (name : Name) → finite.contains_
 tidy_more book [] name there e tidy = (there, refl, tt)
 tidy_more book (other ∷ others) name there e tidy =
     let a = apart name other others e in
-    let differs : name_eq other name ≡ false = not_same other name (λ same. a.0 (sym same)) in
+    let differs : name_eq other name ≡ false = name_differs other name (λ same. a.0 (sym same)) in
     (tidy.0, list_any-append (name_eq other) others (name ∷ []) ∙ ap (λ b. b || (name_eq other name || false)) tidy.1 ∙ ap (λ b. false || (b || false)) differs, tidy_more book others name there a.1 tidy.2)
-  where
-    not_same : (n m : Name) → n ≢ m → name_eq n m ≡ false
-    not_same n m d = elim (name_eq n m) as (λ b. name_eq n m ≡ b → b ≡ false) [ true ↦ λ is. absurd (d (same_named n m is)) | false ↦ λ is. refl ] refl
 
 -- an object that is to be loose is held, and is not loose yet
 to_loosen : (frame : Frame) (name : Name) → is_to_loosen frame name ≡ true → (finite.contains_key frame.book name ≡ true) × (is_among name frame.loose ≡ false)
 to_loosen frame name e =
     let parts = and_parts (option_map_or (λ (booked : Booked). nat_le booked.fields 1) (finite.get frame.book name) false && (locals_to frame name == 0)) (not (is_among name frame.loose)) e in
-    (held (finite.get frame.book name) (and_parts (option_map_or (λ (booked : Booked). nat_le booked.fields 1) (finite.get frame.book name) false) (locals_to frame name == 0) parts.0).0, none (is_among name frame.loose) parts.1)
+    (held (finite.get frame.book name) (and_parts (option_map_or (λ (booked : Booked). nat_le booked.fields 1) (finite.get frame.book name) false) (locals_to frame name == 0) parts.0).0, not-true (is_among name frame.loose) parts.1)
   where
     held : (found : Option Booked) → option_map_or (λ (booked : Booked). nat_le booked.fields 1) found false ≡ true → is_some found ≡ true
     held None f = f
     held (Some booked) f = refl
-
-    none : (b : Bool) → not b ≡ true → b ≡ false
-    none true f = absurd (cc)
-    none false f = refl
 
 pub loosened_tidy : (frame : Frame) (name : Name) → is_to_loosen frame name ≡ true → IsTidy frame → IsTidy (record frame { loose = frame.loose ++ name ∷ [] })
 loosened_tidy frame name e tidy = let parts = to_loosen frame name e in tidy_more frame.book frame.loose name parts.0 parts.1 tidy

@@ -33,6 +33,7 @@ use Rattle.dl_core.proofs.Typing.{plain_there}
 use Rattle.dl_core.proofs.Counts.{set_less}
 use Rattle.dl_core.proofs.Prunes.{Prunes, prunes_more}
 use Rattle.dl_core.proofs.Lone.{Lone, Ends, local_on, event_on, by_book, IsToTake}
+use Rattle.dl_lemmas.proofs.Tests.{and_parts}
 
 -- ---- marks aside
 
@@ -291,7 +292,7 @@ module _ (l : Lone) (frame : Frame) (serial : Objects) where
 
       give_up : (b : Booked) → finite.get book name ≡ Some b → (nat_lt 0 name.ticket && (b.fields == 0)) ≡ true → Ends l heap (State book spares (name ∷ rest) None 0 false)
       give_up b found t = by_book l heap (State book spares (name ∷ rest) None 0 false) (λ has.
-          let parts = both (nat_lt 0 name.ticket) (b.fields == 0) t in
+          let parts = and_parts (nat_lt 0 name.ticket) (b.fields == 0) t in
           let hidden : IsHidden name = ltb-true 0 name.ticket parts.0 in
           let says = has.booked name b found in
           let none : refs heap name ≡ 0 = sym says.fields ∙ eqb-true b.fields 0 parts.1 in

@@ -19,17 +19,13 @@ use Rattle.dl_heapfile.specs.Laws.{IsWellRead, WhatIsReadIsSpelt}
 use Rattle.dl_heapfile.proofs.Rising.{Entries, entries-heap_of}
 use Rattle.dl_heapfile.proofs.Listed.{sorted}
 use Rattle.dl_heapfile.proofs.Starting.{startable}
-use Rattle.dl_lemmas.proofs.Places.{within_first}
+use Rattle.dl_lemmas.proofs.Places.{at_seam, within_first}
 
 -- the lines of these objects, and the last line
 abbrev pub lines_of : Module → Entries → List ℕ
 lines_of source es = flat_map (object_line source) es ++ codes "end\n"
 
 -- ---- one more object
-
-pub get_seam : {X : Type 0} (xs ys : List X) (y : X) → slice_get (xs ++ y ∷ ys) (length xs) ≡ Some y
-get_seam [] ys y = refl
-get_seam (x ∷ xs) ys y = get_seam xs ys y
 
 get_past : {X : Type 0} (xs : List X) (y z : X) (i : ℕ) → slice_get (xs ++ y ∷ []) i ≡ Some z → length xs ≤ i → (i ≡ length xs) × (y ≡ z)
 get_past [] y z zero is least = (refl, same_Some y z is)
@@ -89,7 +85,7 @@ tell source es before [] line placed cut =
     let same : es ≡ before = cut ∙ append-nil before in
     subst (λ (l : Entries). Tells source l line (codes "end\n") (Ok es)) same (Tells.ended (record { all_roots = placed.all_roots; text_is = refl }))
 tell source es before (e ∷ rest) line placed cut =
-    let there : slice_get es (length before) ≡ Some e = ap (λ l. slice_get l (length before)) cut ∙ get_seam before rest e in
+    let there : slice_get es (length before) ≡ Some e = ap (λ l. slice_get l (length before)) cut ∙ at_seam before rest e in
     let follows : MayFollow source before e = subst (λ l. MayFollow source l e) (ap (take (length before)) cut ∙ take-append_seam before (e ∷ rest)) (placed.listed.each (length before) e there) in
     Tells.object e (record {
       follows = follows;

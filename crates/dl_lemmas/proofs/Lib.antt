@@ -2,5 +2,5 @@ pub mod Counts
 pub mod Entries
 pub mod Maps
 pub mod Places
-pub mod Rising
+pub mod Sorted
 pub mod Tests

@@ -47,10 +47,15 @@ within_first [] ys i within = absurd (omega arith)
 within_first (x ∷ xs) ys zero within = refl
 within_first (x ∷ xs) ys (suc i) within = within_first xs ys i (omega arith)
 
--- one more stands behind the others
-pub at_end : {X : Type 0} (xs : List X) (x : X) → slice_get (xs ++ x ∷ []) (length xs) ≡ Some x
-at_end [] x = refl
-at_end (y ∷ xs) x = at_end xs x
+-- the second stands behind it
+pub in_second : {X : Type 0} (xs ys : List X) (j i : ℕ) → i ≡ length xs + j → slice_get (xs ++ ys) i ≡ slice_get ys j
+in_second [] ys j i is = ap (slice_get ys) (omega arith)
+in_second (x ∷ xs) ys j zero is = absurd (omega arith)
+in_second (x ∷ xs) ys j (suc i) is = in_second xs ys j i (omega arith)
+
+-- at the seam stands the first of it
+pub at_seam : {X : Type 0} (xs ys : List X) (y : X) → slice_get (xs ++ y ∷ ys) (length xs) ≡ Some y
+at_seam xs ys y = in_second xs (y ∷ ys) 0 (length xs) (omega arith)
 
 -- the front of a list has what the list has there
 pub front_get : {X : Type 0} (xs : List X) (n i : ℕ) → i < n → slice_get (take n xs) i ≡ slice_get xs i
@@ -82,17 +87,3 @@ in_map f (x ∷ xs) (suc i) y there = in_map f xs i y there
 pub mapped : {X Y : Type 0} (f : X → Y) (o : Option X) (y : Y) → option_map f o ≡ Some y → (x : X) × (o ≡ Some x) × (f x ≡ y)
 mapped f None y is = cc
 mapped f (Some x) y is = (x, refl, same_Some (f x) y is)
-
--- ---- lists that are the same at each place
-
-pub same_at_each : {X : Type 0} (xs ys : List X) → length xs ≡ length ys → ((i : ℕ) → i < length xs → slice_get xs i ≡ slice_get ys i) → xs ≡ ys
-same_at_each [] [] same each = refl
-same_at_each [] (y ∷ ys) same each = absurd (omega arith)
-same_at_each (x ∷ xs) [] same each = absurd (omega arith)
-same_at_each (x ∷ xs) (y ∷ ys) same each =
-    let head = each 0 (omega arith) in
-    let tail = same_at_each xs ys (omega arith) (λ i within. each (suc i) (omega arith)) in
-    cc
-
-pub differ_at : {X : Type 0} (xs ys : List X) (i : ℕ) (x y : X) → slice_get xs i ≡ Some x → slice_get ys i ≡ Some y → (x ≡ y → ⊥) → xs ≡ ys → ⊥
-differ_at xs ys i x y here there differ same = differ (let both = ap (λ zs. slice_get zs i) same in cc)
