@@ -53,6 +53,7 @@ use Rattle.dl_core.proofs.Prunes.{Prunes, IsKeptIn, was_there, prunes_write, pru
 use Rattle.dl_core.proofs.Lone.{Lone, Ends, local_on, event_on, by_book}
 use Rattle.dl_core.proofs.WorkOff.{work_off, plain_mark}
 use Rattle.dl_core.proofs.Alike.{Alike, IsDead, alike_on, alike_set, alike_drop, alike_read, alike_number, same_value, same_truth}
+use Rattle.std.proofs.Math.Bool.{or-true}
 
 -- another local is another number
 pub not_set : (local x : ℕ) → x ≢ local → (local == x) ≡ false
@@ -402,11 +403,7 @@ module _ (l : Lone) (base : Frame) where
   pub content_local : (place q field p : ℕ) (target : Option Name) (hand : Value) (s : State) → slice_get code place ≡ Some (Write q field (contents.Local p)) → RefersTo s p target
       → (locals : List Value) (book : Book) (spares : ℕ) (heap : Heap) → Sim place s locals heap → content_of (contents.Local p) (At place locals (Some hand) s.turns s.made s.emitted book spares) ≡ Ref target
   content_local place q field p target hand s is refers locals book spares heap sim =
-      ap Ref (same_target place p (Write q field (contents.Local p)) s locals heap target is (ap (λ b. (q == p) || b) (is_itself p) ∙ or_true (q == p)) refers sim)
-    where
-      or_true : (b : Bool) → (b || true) ≡ true
-      or_true true = refl
-      or_true false = refl
+      ap Ref (same_target place p (Write q field (contents.Local p)) s locals heap target is (ap (λ b. (q == p) || b) (is_itself p) ∙ or-true (q == p)) refers sim)
 
   -- the name of the object that is made next
   abbrev pub new_name : State → Name

@@ -1,21 +1,12 @@
 -- The number of hidden objects, through each change.
-use Rattle.std.proofs.Common.{◌≡◌, ℕ, ◌+◌, true, false, cond, List, [], ◌∷◌, length, filter, refl, sym, ap, ◌∙◌, Some, None, arith}
-use Rattle.std.specs.Prelude.{nat_lt}
+use Rattle.std.proofs.Common.{◌≡◌, ◌+◌, cond, ap, ◌∙◌, Some, None, arith}
 use Rattle.std.specs.Option.{option_map}
 use Rattle.std.proofs.lemmas.Bool.{lt-ltb}
-use Rattle.std.specs.Cmp.{Equal-is}
-use Rattle.std.specs.Ordering.{is_eq, eq_by_cmp}
-use Rattle.std.specs.declared.cmp.Ordering.TheVariants.{Less, Equal, Greater}
 use Rattle.std.specs.FinMap as finite
-use Rattle.std.specs.FinMap.{get-remove, get-insert, entries-insert, get-entries, same_map, put}
-use Rattle.std.specs.FinMap.Entries.{by_order}
-use Rattle.std.proofs.lemmas.Cmp.{tied_itself}
 use Rattle.dl_ir.specs.declared.names.Name.{Name}
-use Rattle.dl_ir.specs.declared.objects.Obj.{Obj}
-use Rattle.dl_ir.specs.Heap.{Objects, IsHidden, name_cmp, hidden_count}
+use Rattle.dl_ir.specs.Heap.{IsHidden, hidden_count}
 use Rattle.dl_core.specs.declared.objects.Object.{Object}
 use Rattle.dl_core.specs.Heaps.{Heap, put_at, plain, plain_object}
-use Rattle.dl_shape.proofs.Names.{names}
 use Rattle.dl_core.proofs.Plain.{get_plain, plain_put}
 use Rattle.dl_core.proofs.Typing.{plain_there}
 use Rattle.dl_shape.proofs.HiddenCount.{one, hidden_count-new, hidden_count-over, hidden_count-there}

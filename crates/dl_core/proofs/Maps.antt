@@ -1,15 +1,10 @@
 -- What a map has after a change at a key, and how much its values weigh.
-use Rattle.std.proofs.Common.{◌≡◌, ◌≢◌, ℕ, ◌+◌, ◌≤◌, Bool, true, false, cond, ◌&&◌, List, [], ◌∷◌, Option, Some, None, refl, sym, ap, ◌∙◌, subst, arith, T, Ordering, Less, Equal, Greater}
+use Rattle.std.proofs.Common.{◌≡◌, ◌≢◌, ℕ, ◌+◌, ◌≤◌, Bool, true, false, cond, Option, Some, None, refl, sym, ap, ◌∙◌, arith, Ordering}
 use Rattle.std.specs.FinMap as map
-use Rattle.std.specs.FinMap.{FinMap, IsAntisymmetric, get-insert, get-remove, same_map, entries-insert, get-entries, entries_sorted, put, find, is_sorted}
-use Rattle.std.specs.FinMap.Entries.{by_order, below_all}
-use Rattle.std.specs.Ordering.{eq_by_cmp, is_eq, is_lt}
-use Rattle.std.specs.Cmp.{IsTotalOrder, tied_itself}
+use Rattle.std.specs.FinMap.{FinMap, get-insert, get-remove, same_map}
+use Rattle.std.specs.Ordering.{eq_by_cmp}
 use Rattle.std.specs.List.{sum_by}
-use Rattle.std.proofs.lemmas.List.Sums.{sum_by-cons}
 use native.Mathlib.Nat.{zero-add}
-use Rattle.dl_ir.specs.Heap.{name_cmp}
-use Rattle.dl_ir.proofs.NameOrder.{names_total, exact_names}
 use Rattle.dl_core.specs.Heaps.{put_at, total}
 use Rattle.dl_lemmas.proofs.Maps.{Keys, eq_here, eq_there, same_key, same_without, sum-over, sum-there}
 

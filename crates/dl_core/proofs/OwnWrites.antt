@@ -1,5 +1,5 @@
 -- Each write of a caller that has entered keeps what holds of that caller.
-use Rattle.std.proofs.Common.{◌≡◌, ◌≢◌, ◌⊎◌, inl, inr, ℕ, zero, suc, ◌+◌, ◌-◌, ◌<◌, ◌≤◌, Bool, true, false, cond, List, [], ◌∷◌, length, get_or, Option, Some, None, refl, sym, ap, subst, ◌∙◌, arith}
+use Rattle.std.proofs.Common.{◌≡◌, ◌≢◌, ◌⊎◌, inl, inr, ℕ, ◌+◌, ◌-◌, ◌<◌, ◌≤◌, Bool, true, false, cond, List, [], ◌∷◌, length, get_or, Option, Some, None, refl, sym, ap, subst, ◌∙◌, arith}
 use Rattle.std.specs.Prelude.{slice_get, slice_set}
 use Rattle.std.specs.Option.{option_map}
 use Rattle.std.specs.FinMap as finite
@@ -49,6 +49,7 @@ use Rattle.dl_core.proofs.Events.{Works, local_hidden, hand_before, cleared, cle
 use Rattle.dl_core.proofs.Own.{Keeps, going_now}
 use Rattle.dl_core.proofs.Changed as changed
 use Rattle.dl_lemmas.proofs.Places.{set_place}
+use Rattle.std.proofs.Math.ListN.{get_or-eq_default}
 
 held_sealed : {c t : ℕ} → Held c ≡ Sealed t → ⊥
 held_sealed e = cc
@@ -375,16 +376,11 @@ module _ (plan : Plan) (core : Core) (calls : Calls) (caller : ℕ) (is : IsPlan
       within : field < length object.fields
       within = elim (cases_lt field (length object.fields)) [
         | inl less ↦ less
-        | inr past ↦ absurd (null_there (sym (past_end object.fields field past) ∙ old_is))
+        | inr past ↦ absurd (null_there (sym (get_or-eq_default object.fields (Ref None) past) ∙ old_is))
       ]
         where
           null_there : Ref None ≡ Ref (Some target) → ⊥
           null_there e = cc
-
-          past_end : (values : List Value) (i : ℕ) → length values ≤ i → get_or values i (Ref None) ≡ Ref None
-          past_end [] i l = refl
-          past_end (v ∷ vs) zero l = absurd (omega arith)
-          past_end (v ∷ vs) (suc i) l = past_end vs i (omega arith)
 
       null_type : (ty : Ty) (v : Value) → v ≡ Ref (Some target) → HasType (plain heap) ty v → HasType (plain heap) ty (Ref None)
       null_type types.Int (Int n) e h = absurd (let clash : Int n ≡ Ref (Some target) = e in cc)

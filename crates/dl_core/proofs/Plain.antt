@@ -1,18 +1,17 @@
 -- Heaps with their marks left aside.
-use Rattle.std.proofs.Common.{◌≡◌, Bool, true, false, cond, ◌&&◌, List, [], ◌∷◌, map, Option, Some, None, refl, sym, ap, subst, ◌∙◌, T, Ordering, arith}
+use Rattle.std.proofs.Common.{◌≡◌, Bool, true, false, cond, List, [], ◌∷◌, map, Option, Some, None, refl, sym, ap, ◌∙◌, Ordering, arith}
 use Rattle.std.specs.Prelude.{sum_by, count_by}
 use Rattle.std.specs.Option.{option_map}
-use Rattle.std.specs.Ordering.{is_lt, eq_by_cmp}
+use Rattle.std.specs.Ordering.{eq_by_cmp}
 use Rattle.std.specs.FinMap as finite
-use Rattle.std.specs.FinMap.{FinMap, is_sorted, find, entries_sorted, entries-from_sorted, get-from_sorted, get-entries, same_map, entries_sorted}
-use Rattle.std.specs.FinMap.Entries.{below_all}
+use Rattle.std.specs.FinMap.{same_map}
 use Rattle.std.proofs.lemmas.List.Sums.{sum_by-cons}
 use Rattle.dl_ir.specs.declared.names.Name.{Name}
 use Rattle.dl_ir.specs.declared.objects.Obj.{Obj}
 use Rattle.dl_ir.specs.Heap.{Objects, name_cmp}
 use Rattle.dl_ir.specs.References as references
 use Rattle.dl_core.specs.declared.objects.Object.{Object}
-use Rattle.dl_core.specs.Heaps.{Heap, put_at, total, refs, refs_in, changed, plain, plain_object, marked, marked_object, is_sealed, first_mark}
+use Rattle.dl_core.specs.Heaps.{Heap, put_at, total, refs, refs_in, plain, plain_object, marked, marked_object, is_sealed, first_mark}
 use Rattle.dl_shape.proofs.Names.{names}
 use Rattle.dl_core.proofs.Maps.{get-put_at}
 use Rattle.dl_lemmas.proofs.Entries.{get-changed, entries-changed}

@@ -15,7 +15,7 @@ use Rattle.dl_core.specs.Shown.{AreTidy, IsTidy}
 use Rattle.dl_shape.proofs.Names.{names}
 use Rattle.dl_core.proofs.Maps.{get_there}
 use Rattle.dl_lemmas.proofs.Tests.{not_both, and_parts}
-use Rattle.dl_core.proofs.Names.{name_itself, same_named, name_differs}
+use Rattle.dl_core.proofs.Names.{name_itself, name_differs}
 use Rattle.std.proofs.lemmas.Bool.{not-true}
 
 -- the name that stands first is not among the others

@@ -34,6 +34,7 @@ use Rattle.dl_core.proofs.Counts.{set_less}
 use Rattle.dl_core.proofs.Prunes.{Prunes, prunes_more}
 use Rattle.dl_core.proofs.Lone.{Lone, Ends, local_on, event_on, by_book, IsToTake}
 use Rattle.dl_lemmas.proofs.Tests.{and_parts}
+use Rattle.std.proofs.Math.Bool.{or-true}
 
 -- ---- marks aside
 
@@ -223,17 +224,13 @@ module _ (l : Lone) (frame : Frame) (serial : Objects) where
                   left = Some finds.object;
                   acts = ap (act l.plan l.caller f (Takes target)) finds.there ∙ ap (take l.plan l.caller target f finds.object) shut.1;
                   on = subst (λ h. Ends l h (State book spares (name ∷ rest) (Some (Ref (Some target))) k true)) (sym (ap (put_at heap target) (sym finds.there) ∙ put_at_same names heap target))
-                      (write_on k field comes then_from rest book spares target true heap is (or_true (has_booked f target)));
+                      (write_on k field comes then_from rest book spares target true heap is (or-true (has_booked f target)));
                 }
               ]))
         ]
       where
         differ : (finds : IsToTake heap target) → is.object.mark ≡ finds.object.mark → is.object.mark ≡ Held l.caller → ⊥
         differ finds same held = elim finds.mark [ inl free ↦ free_held (sym free ∙ sym same ∙ held) | inr shut ↦ sealed_held (sym shut.1 ∙ sym same ∙ held) ]
-
-        or_true : (b : Bool) → (b || true) ≡ true
-        or_true true = refl
-        or_true false = refl
 
     -- its field was read
     value_on : (k field : ℕ) → reference_from l.plan kind k ≡ Some field → FromField (field + 1) → (rest : List Name) (book : Book) (spares : ℕ) (value : Value) (heap : Heap) → IsBeingCleared heap
