@@ -20,6 +20,7 @@ use Rattle.dl_shape.specs.Settling.{trim}
 use Rattle.dl_closed.specs.Unsealed.{IsUnsealed}
 use Rattle.dl_closed.proofs.Settled.{no_breach, settled_unsealed}
 use Rattle.dl_closed.proofs.Statements.{NoneSealed, NotAtSealed, block_keeps}
+use Rattle.dl_lemmas.proofs.Places.{all_at}
 
 end_passed : (end : Option End) → NotAtSealed end → (name : Name) → end_of end ≢ ends.Sealed name
 end_passed None passed name is = cc
@@ -44,11 +45,6 @@ clean_found : (source : Module) (heap : Objects) (ticket : ℕ) (arguments : Lis
     → IfSome found (λ (o : OpDecl). IsForest (trim (body_outcome source heap ticket arguments o).state.objects)) → Clean (operated_where source heap ticket arguments found)
 clean_found source heap ticket arguments None op is none forest = cc
 clean_found source heap ticket arguments (Some found) op is none forest = clean_op source heap ticket arguments found none forest
-
-pub all_at : {X : Type 0} (P : X → Type 0) (xs : List X) (i : ℕ) (x : X) → All P xs → slice_get xs i ≡ Some x → P x
-all_at P [] i x all is = cc
-all_at P (y ∷ ys) zero x all is = let same : y ≡ x = cc in subst P same (All-head P y ys all)
-all_at P (y ∷ ys) (suc i) x all is = all_at P ys i x (All-tail P y ys all) is
 
 in_calls : (source : Module) (found : Option (List Call)) (i : ℕ) (call : Call) → ((calls : List Call) → found ≡ Some calls → AreCallsOf source calls)
     → option_and_then (λ (calls : List Call). slice_get calls i) found ≡ Some call → IsCallOf source call

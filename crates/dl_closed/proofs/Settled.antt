@@ -16,6 +16,7 @@ use Rattle.dl_shape.proofs.Forest.{forest_stands}
 use Rattle.dl_ir.proofs.Members.{Held, In}
 use Rattle.dl_ir.proofs.NameOrder.{names_total}
 use Rattle.dl_closed.proofs.Statements.{NoneSealed}
+use Rattle.std.proofs.Math.Bool.{or-false}
 
 one_less : (b : Bool) (old : Option Obj) (p : Obj) → cond b None old ≡ Some p → old ≡ Some p
 one_less true old p is = cc
@@ -48,12 +49,8 @@ none_found test (e ∷ es) passes_not = rw (passes_not e (inl refl)) (none_found
 pub no_breach : (h : Objects) → IsForest (trim h) → breach_of h ≡ None
 no_breach h forest = ap (option_map (λ (entry : Name × Obj). entry.0)) (none_found (is_shared (trim h)) (finite.entries (trim h)) (not_shared (trim h) forest))
 
-or_false : (b : Bool) → (b || false) ≡ b
-or_false true = refl
-or_false false = refl
-
 entry_same : (h : Objects) (e : Name × Obj) → is_shared h e ≡ false → sealed_entry h e ≡ e
-entry_same h e passes_not = ap (λ b. (e.0, record e.1 { sealed = b })) (ap (λ c. e.1.sealed || c) passes_not ∙ or_false e.1.sealed)
+entry_same h e passes_not = ap (λ b. (e.0, record e.1 { sealed = b })) (ap (λ c. e.1.sealed || c) passes_not ∙ or-false e.1.sealed)
 
 entries_same : (h : Objects) (es : Held) → ((e : Name × Obj) → In e es → is_shared h e ≡ false) → map (sealed_entry h) es ≡ es
 entries_same h [] passes_not = refl

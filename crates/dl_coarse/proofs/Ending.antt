@@ -16,14 +16,7 @@ use Rattle.dl_coarse.specs.Sights.{Own, Sight}
 use Rattle.dl_coarse.specs.Turn.{IsTurn, HasOwn}
 use Rattle.dl_coarse.specs.Ends.{HasAll, ShowsAll, calls_in}
 use Rattle.dl_coarse.proofs.Keeps.{no_turn}
-
-there_at : {X : Type 0} (xs : List X) (at : ℕ) → at < length xs → (x : X) × (slice_get xs at ≡ Some x)
-there_at [] at within = absurd (omega arith)
-there_at (x ∷ xs) zero within = (x, refl)
-there_at (x ∷ xs) (suc at) within = there_at xs at (omega arith)
-
-contains_at : {X : Type 0} (xs : List X) (at : ℕ) (x : X) → slice_get xs at ≡ Some x → Contains xs x
-contains_at xs at x there = (at, slice_get_within xs at x there, get_or_from_slice_get xs at x x there)
+use Rattle.dl_lemmas.proofs.Places.{contains_at, one_at}
 
 same_lists : (calls : Calls) (owns : List Own) → length calls ≡ length owns → ((at : ℕ) (own : Own) → slice_get owns at ≡ Some own → get_or calls at [] ≡ own.calls) → calls ≡ map (λ (own : Own). own.calls) owns
 same_lists [] [] many each = refl
@@ -47,7 +40,7 @@ module _ {M : Type 0} (runs : Plan → M → Type 0) (core_of : M → Core) (pla
       let from_one = theirs.is_caller.from_one in
       let to_last = theirs.is_caller.to_last in
       let many = all.many in
-      let mine = there_at v.owns (has.own.number - 1) (omega arith) in
+      let mine = one_at v.owns (has.own.number - 1) (omega arith) in
       let ours = h.owns id v mine.0 at_id (contains_at v.owns (has.own.number - 1) mine.0 mine.1) in
       let numbered = all.numbered (has.own.number - 1) mine.0 mine.1 in
       let number : mine.0.number ≡ has.own.number = omega arith in

@@ -19,12 +19,7 @@ use Rattle.dl_coarse.specs.Passes.{IsOf, CanJoin, CanJoinAll, HasGathered, hand_
 use Rattle.dl_coarse.specs.Sights.{Own, Sight, view_with}
 use Rattle.dl_coarse.specs.declared.passes.Coarse.{Coarse}
 use Rattle.dl_coarse.specs.declared.passes.Pass.{Pass}
-
--- an element of a mapped list is that of the list, mapped
-pub from_mapped : {A B : Type 0} (f : A → B) (xs : List A) (at : ℕ) (y : B) → slice_get (map f xs) at ≡ Some y → (x : A) × (slice_get xs at ≡ Some x) × (f x ≡ y)
-from_mapped f [] at y there = absurd (cc there)
-from_mapped f (x ∷ xs) zero y there = (x, refl, cc there)
-from_mapped f (x ∷ xs) (suc at) y there = from_mapped f xs at y there
+use Rattle.dl_lemmas.proofs.Places.{in_map}
 
 -- two lists made of the numbers of callers and of their passes are equal
 by_caller : {A X : Type 0} (of_caller : ℕ → X) (of_pass : A → X) (first : ℕ) (passes : List A) → ((at : ℕ) (pass : A) → slice_get passes at ≡ Some pass → of_caller (first + at) ≡ of_pass pass)
@@ -88,7 +83,7 @@ module _ {M : Type 0} (opening : M → Plan) (coarse : Coarse M) (passes : List 
     has_all = record {
       many = ap length gathered.owns ∙ length-map passes own_at ∙ idle.count;
       numbered = λ at own there.
-          let from = from_mapped own_at passes at own (subst (λ (owns : List Own). slice_get owns at ≡ Some own) gathered.owns there) in
+          let from = in_map own_at passes at own (subst (λ (owns : List Own). slice_get owns at ≡ Some own) gathered.owns there) in
           ap (λ (o : Own). o.number) (sym from.2) ∙ number_is at from.0 from.1;
     }
 
@@ -149,11 +144,11 @@ module _ {M : Type 0} (opening : M → Plan) (coarse : Coarse M) (passes : List 
         core = core;
         reached = subst (IsReached plan core) calls_are shows.reached;
         frames = λ at view there.
-            let from = from_mapped view_of passes at view there in
+            let from = in_map view_of passes at view there in
             let same = sym (view_is at from.0 from.1) ∙ from.2 in
             subst (λ (v : PassView). frame_of core.world v.caller ≡ v.frame) same (frame_is at from.0 from.1);
         accounts = λ at view there.
-            let from = from_mapped view_of passes at view there in
+            let from = in_map view_of passes at view there in
             let same = sym (view_is at from.0 from.1) ∙ from.2 in
             subst (λ (v : PassView). account_of core v.caller ≡ v.account) same (account_is at from.0 from.1);
         heap = left.heap;

@@ -14,12 +14,7 @@ use Rattle.dl_coarse.specs.Openings.{HasSlot, HasYet, fresh_own, first_sight}
 use Rattle.dl_coarse.specs.Sights.{Own, Sight, own_in, behind, glanced, note_of, turn_with, with_slot, without_turn, without_first, first_alone}
 use Rattle.dl_coarse.specs.Turn.{HasOwn, IsTurn, MayReturn}
 use Rattle.dl_coarse.proofs.Keeps.{has_turn_here, dealt}
-
--- what stands at a place of a list of equal elements
-all_same : {X : Type 0} (n at : ℕ) (x : X) → get_or (replicate n x) at x ≡ x
-all_same zero at x = refl
-all_same (suc n) zero x = refl
-all_same (suc n) (suc at) x = all_same n at x
+use Rattle.dl_lemmas.proofs.Places.{same_everywhere}
 
 length_same : {X : Type 0} (n : ℕ) (x : X) → length (replicate n x) ≡ n
 length_same zero x = refl
@@ -44,14 +39,14 @@ apart_in first more own there same =
 
 no_calls_of : (plan : Plan) (caller : ℕ) → calls_of (no_calls plan) caller ≡ []
 no_calls_of plan zero = refl
-no_calls_of plan (suc place) = all_same (length plan.sizes) place []
+no_calls_of plan (suc place) = same_everywhere (length plan.sizes) place []
 
 fresh_has : (plan : Plan) (number : ℕ) → 1 ≤ number → number < 1 + length plan.sizes → HasOwn plan (fresh plan) (no_calls plan) (λ _. 0) 0 (fresh_own number)
 fresh_has plan number low high = record {
   at_seat = refl;
   is_caller = record { from_one = omega arith; to_last = omega arith };
-  frame = all_same (length plan.sizes + 1) number idle;
-  account = all_same (length plan.sizes + 1) number no_account;
+  frame = same_everywhere (length plan.sizes + 1) number idle;
+  account = same_everywhere (length plan.sizes + 1) number no_account;
   begun = no_calls_of plan number;
 }
 
@@ -72,7 +67,7 @@ module _ {M : Type 0} (runs : Plan → M → Type 0) (core_of : M → Core) (pla
         calls = no_calls plan;
         owner = λ _. 0;
         reached = starts;
-        idle = λ caller. ap (λ frame. frame.stage) (all_same (length plan.sizes + 1) caller idle);
+        idle = λ caller. ap (λ frame. frame.stage) (same_everywhere (length plan.sizes + 1) caller idle);
         lists = length_same (length plan.sizes) [];
         frames = length_same (length plan.sizes + 1) idle;
         wide = refl;

@@ -19,6 +19,7 @@ use Rattle.dl_instr.specs.declared.steps.Step.TheVariants.{Test}
 use Rattle.dl_instr.specs.Drops as drops
 use Rattle.dl_instr.specs.Drops.{reads, sets, is_side, GoesOn, IsReadFrom}
 use Rattle.dl_core.proofs.Names.{same_number}
+use Rattle.std.proofs.Math.Bool.{or-true}
 
 -- what a run's local holds, and what the serial one holds
 pub data IsAlike (is_dead : Type 0) (mine serial : Option Value) : Type 0 where
@@ -116,11 +117,7 @@ module _ (types : List Ty) (mine serial : List Value) (same : (x : ℕ) → numb
       or_left : (n : ℕ) (b : Bool) → ((n == n) || b) ≡ true
       or_left n b = ap (λ c. c || b) (itself n)
 
-      or_true : (b : Bool) → (b || true) ≡ true
-      or_true true = refl
-      or_true false = refl
-
       or_right : (n : ℕ) (b : Bool) → (b || (n == n)) ≡ true
-      or_right n b = ap (λ c. b || c) (itself n) ∙ or_true b
+      or_right n b = ap (λ c. b || c) (itself n) ∙ or-true b
   same_truth (typed.null_left eq {p} p_is) sides_are = rw (sides_are p (grind (arith, nat_tests))) refl
   same_truth (typed.null_right eq {p} p_is) sides_are = rw (sides_are p (grind (arith, nat_tests))) refl

@@ -15,8 +15,10 @@ use Rattle.dl_core.specs.Heaps.{Heap, refs_in, refs, put_at, IsHeld}
 use Rattle.dl_core.proofs.Maps.{weight}
 use Rattle.dl_core.specs.Changes.{IsApart, IsCounted, MayWrite, IsOwn, May, reads, sees, writes, takes, lets_go, seals, gives_up, makes, takes_root}
 use Rattle.dl_core.specs.Reach.{RefersTo, Links, Reaches, holds, along, IsAbove}
-use Rattle.dl_core.proofs.Maps.{names, get_here, get_there, total-put_at, two_of_total}
-use Rattle.dl_core.proofs.Names.{no_bool, same_name, same_named, same_some, no_some}
+use Rattle.dl_shape.proofs.Names.{names}
+use Rattle.dl_core.proofs.Maps.{get_here, get_there, total-put_at, two_of_total}
+use Rattle.dl_lemmas.proofs.Tests.{not_both}
+use Rattle.dl_core.proofs.Names.{same_name, same_named, same_some, no_some}
 use Rattle.dl_core.proofs.Counts.{free_held}
 
 -- what refers to a name after a write of a field did so before, or the new value does
@@ -56,8 +58,8 @@ module _ (h : Heap) (tickets : ℕ → ℕ) (c : ℕ) (x : Name) where
   same_fields b ob e f n r = old (record { object = b; there = e; refers = subst (λ vs. 0 < count_by (refers_to n) vs) (sym f) r })
 
   new_value : (b : Obj) (v : Val) → b.mark ≡ Held c → MayWrite h c v → (n : Name) → refers_to n v ≡ true → Linked h c x (Some b) n
-  new_value b (Int k) m may n t = absurd (no_bool t refl)
-  new_value b (Ref None) m may n t = absurd (no_bool t refl)
+  new_value b (Int k) m may n t = absurd (not_both t refl)
+  new_value b (Ref None) m may n t = absurd (not_both t refl)
   new_value b (Ref (Some k)) m may n t = new refl m (subst (IsHeld h c) (sym (same_named n k t)) may.0)
 
   link_after : (o o' : Option Obj) → May h tickets c x o o' → map.get h x ≡ o → (ob : Obj) → o' ≡ Some ob → (n : Name) → RefersTo ob n → Linked h c x o n

@@ -42,12 +42,7 @@ use Rattle.dl_core.proofs.Turned.{IsOwnTurn, world, turned_kept, frame_own, fram
 use Rattle.std.proofs.Math.ListN.{get_or-eq_default}
 use Rattle.std.proofs.lemmas.Bool.{cases_lt}
 use Rattle.std.proofs.lemmas.List.Sums.{sum_by-cons}
-
--- what is in a list stays there when more is put behind it
-stays_there : {X : Type 0} (xs ys : List X) (i : ℕ) (x : X) → slice_get xs i ≡ Some x → slice_get (xs ++ ys) i ≡ Some x
-stays_there [] ys i x e = absurd (no_some e)
-stays_there (y ∷ xs) ys zero x e = e
-stays_there (y ∷ xs) ys (suc i) x e = stays_there xs ys i x e
+use Rattle.dl_lemmas.proofs.Places.{in_first}
 
 get_set : {X : Type 0} (xs : List X) (i j : ℕ) (y : X) → i ≢ j → slice_get (set xs i y) j ≡ slice_get xs j
 get_set [] i j y n = refl
@@ -79,7 +74,7 @@ call_stays calls (suc place) call (suc d) (suc i) k e = by (same_number place d)
         let within : d < length calls = slice_get_within calls d w.0 w.1 in
         let list : get_or calls place [] ≡ w.0 = same_some (sym (slice_get-get_or calls place [] (omega (arith, within, same))) ∙ ap (slice_get calls) same ∙ w.1) in
         ap (option_and_then (λ (cs : List Call). slice_get cs i)) (ap (slice_get (set calls place (get_or calls place [] ++ call ∷ []))) (sym same) ∙ get_set_here calls place (get_or calls place [] ++ call ∷ []) (omega (arith, within, same)))
-        ∙ stays_there (get_or calls place []) (call ∷ []) i k (ap (λ cs. slice_get cs i) list ∙ w.2)
+        ∙ in_first (get_or calls place []) (call ∷ []) i k (ap (λ cs. slice_get cs i) list ∙ w.2)
 
 -- a caller's calls have their numbers
 there_is : (calls : Calls) (d index : ℕ) → 0 < index → index ≤ length (calls_of calls d) → (k : Call) × (call_at calls d index ≡ Some k)

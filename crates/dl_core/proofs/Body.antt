@@ -41,8 +41,10 @@ use Rattle.dl_core.specs.LocalSteps.{given_out, Goes, Stops, next, next_step, on
 use Rattle.dl_core.specs.Events.{act, take, with_mark, made_object}
 use Rattle.dl_core.specs.Changes.{MayWrite}
 use Rattle.dl_core.specs.Sound.{HasBook}
-use Rattle.dl_core.proofs.Maps.{names, put_at_same}
-use Rattle.dl_core.proofs.Names.{same_some, bools}
+use Rattle.dl_shape.proofs.Names.{names}
+use Rattle.dl_core.proofs.Maps.{put_at_same}
+use Rattle.std.proofs.lemmas.Bool.{cases_Bool}
+use Rattle.dl_core.proofs.Names.{same_some}
 use Rattle.dl_core.proofs.Plain.{plain_put}
 use Rattle.dl_core.proofs.Typing.{plain_there}
 use Rattle.dl_core.proofs.Rows.{none_refers}
@@ -51,10 +53,11 @@ use Rattle.dl_core.proofs.Prunes.{Prunes, IsKeptIn, was_there, prunes_write, pru
 use Rattle.dl_core.proofs.Lone.{Lone, Ends, local_on, event_on, by_book}
 use Rattle.dl_core.proofs.WorkOff.{work_off, plain_mark}
 use Rattle.dl_core.proofs.Alike.{Alike, IsDead, alike_on, alike_set, alike_drop, alike_read, alike_number, same_value, same_truth}
+use Rattle.std.proofs.Math.Bool.{or-true}
 
 -- another local is another number
 pub not_set : (local x : ℕ) → x ≢ local → (local == x) ≡ false
-not_set local x other = elim (bools (local == x)) [ inl t ↦ absurd (other (grind (arith, nat_tests, t))) | inr f ↦ f ]
+not_set local x other = elim (cases_Bool (local == x)) [ inl t ↦ absurd (other (grind (arith, nat_tests, t))) | inr f ↦ f ]
 
 pub is_itself : (n : ℕ) → (n == n) ≡ true
 is_itself n = grind (arith, nat_tests)
@@ -256,7 +259,7 @@ module _ (l : Lone) (base : Frame) where
 
   -- a loop's test
   some_turns : (turns : ℕ) → 0 < turns → (turns == 0) ≡ false
-  some_turns turns more = elim (bools (turns == 0)) [ inl t ↦ absurd (let none : turns ≡ 0 = grind (arith, nat_tests, t) in omega (arith, none, more)) | inr f ↦ f ]
+  some_turns turns more = elim (cases_Bool (turns == 0)) [ inl t ↦ absurd (let none : turns ≡ 0 = grind (arith, nat_tests, t) in omega (arith, none, more)) | inr f ↦ f ]
 
   no_turns : (turns : ℕ) → turns ≡ 0 → (turns == 0) ≡ true
   no_turns turns none = grind (arith, nat_tests, none)
@@ -314,7 +317,7 @@ module _ (l : Lone) (base : Frame) where
   want_on place (Some name) s is opened on locals book spares heap sim =
       let f = At place locals (Some (Ref (Some name))) s.turns s.made s.emitted book spares in
       let now = same_sim place (place + 1) Want s locals heap is refl (λ x. refl) sim in
-      elim (bools (has_booked f name)) [
+      elim (cases_Bool (has_booked f name)) [
         | inl t ↦ local_on l heap f (At (place + 1) locals (Some (Ref (Some name))) s.turns s.made s.emitted book spares) (want_is place name s locals book spares true is t) (on locals book spares heap now)
         | inr n ↦ event_on l heap f (Takes name) name (want_is place name s locals book spares false is n) refl (λ finds.
             elim finds.mark [
@@ -333,7 +336,7 @@ module _ (l : Lone) (base : Frame) where
   pub want_sealed : (place : ℕ) (name : Name) (s : State) → slice_get code place ≡ Some Want → IsSealed s name → Over (ends.Sealed name) s → FromHand (Some (Ref (Some name))) place s
   want_sealed place name s is marked on locals book spares heap sim =
       let f = At place locals (Some (Ref (Some name))) s.turns s.made s.emitted book spares in
-      elim (bools (has_booked f name)) [
+      elim (cases_Bool (has_booked f name)) [
         | inl t ↦ by_book l heap f (λ has. absurd (by has (finite.get book name) refl t))
         | inr n ↦ event_on l heap f (Takes name) name (want_is place name s locals book spares false is n) refl (λ finds.
             elim finds.mark [
@@ -400,11 +403,7 @@ module _ (l : Lone) (base : Frame) where
   pub content_local : (place q field p : ℕ) (target : Option Name) (hand : Value) (s : State) → slice_get code place ≡ Some (Write q field (contents.Local p)) → RefersTo s p target
       → (locals : List Value) (book : Book) (spares : ℕ) (heap : Heap) → Sim place s locals heap → content_of (contents.Local p) (At place locals (Some hand) s.turns s.made s.emitted book spares) ≡ Ref target
   content_local place q field p target hand s is refers locals book spares heap sim =
-      ap Ref (same_target place p (Write q field (contents.Local p)) s locals heap target is (ap (λ b. (q == p) || b) (is_itself p) ∙ or_true (q == p)) refers sim)
-    where
-      or_true : (b : Bool) → (b || true) ≡ true
-      or_true true = refl
-      or_true false = refl
+      ap Ref (same_target place p (Write q field (contents.Local p)) s locals heap target is (ap (λ b. (q == p) || b) (is_itself p) ∙ or-true (q == p)) refers sim)
 
   -- the name of the object that is made next
   abbrev pub new_name : State → Name

@@ -23,7 +23,8 @@ use Rattle.dl_core.specs.Plans.{Plan, IsPlan, IsCaller, source_of, allocs_of}
 use Rattle.dl_core.specs.Reached.{Calls}
 use Rattle.dl_core.specs.Shown.{HasFewFields}
 use Rattle.dl_core.specs.Sound.{HasCall, IsWaiting, Stands, idles, waits, works}
-use Rattle.dl_core.proofs.Maps.{names, AreEntries, entries_are}
+use Rattle.dl_shape.proofs.Names.{names}
+use Rattle.dl_lemmas.proofs.Entries.{AreEntries, entries_are}
 use Rattle.dl_core.proofs.RootNumbers.{all_held}
 use Rattle.dl_core.proofs.Typing.{kind_of, plain_there}
 

@@ -40,7 +40,8 @@ use Rattle.dl_core.proofs.CallerFacts.{called_waits}
 use Rattle.dl_core.proofs.CoreSteps.{by_due, done_or, touching}
 use Rattle.dl_core.proofs.Dominates.{events_dominate}
 use Rattle.dl_core.proofs.Events.{Works, cleared, cleared_hand, hand_before, loose_held, works_loose, works_running}
-use Rattle.dl_core.proofs.Maps.{AreEntries, entries_are, names}
+use Rattle.dl_lemmas.proofs.Entries.{AreEntries, entries_are}
+use Rattle.dl_shape.proofs.Names.{names}
 use Rattle.dl_core.proofs.Names.{no_some, same_some}
 use Rattle.dl_core.proofs.Plain.{get_plain}
 use Rattle.dl_core.proofs.Rows.{target_held, target_value}

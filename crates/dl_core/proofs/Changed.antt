@@ -19,7 +19,8 @@ use Rattle.dl_core.specs.Plans.{Plan, reference_from}
 use Rattle.dl_core.specs.Frames.{Book, Frame, locals_to}
 use Rattle.dl_core.specs.Lawful.{HasReason, for_a_local, for_fields, for_the_list, for_the_hand}
 use Rattle.dl_core.specs.Sound.{IsBooked, HasBook, IsLoose, HasLocals, IsFieldInHand, HasCleared, clears, lets_go}
-use Rattle.dl_core.proofs.Maps.{names, get_here, get_there}
+use Rattle.dl_shape.proofs.Names.{names}
+use Rattle.dl_core.proofs.Maps.{get_here, get_there}
 use Rattle.dl_core.proofs.Names.{same_name, same_some, no_some}
 use Rattle.dl_core.proofs.Typing.{plain_there}
 use Rattle.dl_core.proofs.HeapTyped.{from_plain}

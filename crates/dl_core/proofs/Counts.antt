@@ -14,8 +14,10 @@ use Rattle.dl_core.specs.Heaps.{Heap, refs_in, refs, put_at, field_of}
 use Rattle.dl_core.proofs.Maps.{weight}
 use Rattle.dl_core.specs.Changes.{MayLose, IsCounted, MayWrite, May, reads, sees, writes, takes, lets_go, seals, gives_up, makes, takes_root}
 use Rattle.dl_core.specs.Reach.{Links}
-use Rattle.dl_core.proofs.Maps.{names, get_here, get_there, total-put_at, two_of_total}
-use Rattle.dl_core.proofs.Names.{same_name, same_named, same_some, no_some, bools}
+use Rattle.dl_shape.proofs.Names.{names}
+use Rattle.dl_core.proofs.Maps.{get_here, get_there, total-put_at, two_of_total}
+use Rattle.std.proofs.lemmas.Bool.{cases_Bool}
+use Rattle.dl_core.proofs.Names.{same_name, same_named, same_some, no_some}
 
 pub free_held : {d : ℕ} → Free ≡ Held d → ⊥
 free_held e = cc
@@ -50,7 +52,7 @@ module _ (h : Heap) (tickets : ℕ → ℕ) (c : ℕ) (x : Name) where
   not_written n b is m (Int k) may = refl
   not_written n b is m (Ref None) may = refl
   not_written n b is m (Ref (Some k)) may =
-      elim (bools (refers_to n (Ref (Some k)))) [
+      elim (cases_Bool (refers_to n (Ref (Some k)))) [
         | inl t ↦ absurd (m (ap (λ (w : Obj). w.mark) (same_some (sym is ∙ ap (map.get h) (same_named n k t) ∙ may.0.there)) ∙ may.0.held))
         | inr f ↦ f
       ]
@@ -59,7 +61,7 @@ module _ (h : Heap) (tickets : ℕ → ℕ) (c : ℕ) (x : Name) where
   not_lost n b is m s (Int k) may = refl
   not_lost n b is m s (Ref None) may = refl
   not_lost n b is m s (Ref (Some k)) may =
-      elim (bools (refers_to n (Ref (Some k)))) [
+      elim (cases_Bool (refers_to n (Ref (Some k)))) [
         | inr f ↦ f
         | inl t ↦ elim may [
           | inl y ↦ absurd (m (ap (λ (w : Obj). w.mark) (same_some (sym is ∙ ap (map.get h) (same_named n k t) ∙ y.there)) ∙ y.held))
@@ -102,7 +104,7 @@ module _ (h : Heap) (tickets : ℕ → ℕ) (c : ℕ) (x : Name) where
   not_root n z (Int k) may = refl
   not_root n z (Ref None) may = refl
   not_root n z (Ref (Some k)) may =
-      elim (bools (refers_to n (Ref (Some k)))) [
+      elim (cases_Bool (refers_to n (Ref (Some k)))) [
         | inl t ↦ absurd (let same : n.ticket ≡ k.ticket = ap (λ (m : Name). m.ticket) (same_named n k t) in omega (arith, may.1))
         | inr f ↦ f
       ]

@@ -6,7 +6,8 @@ use Rattle.dl_ir.specs.declared.names.Name.{Name}
 use Rattle.dl_core.specs.declared.objects.Object.{Object as Obj}
 use Rattle.dl_core.specs.Heaps.{Heap, put_at}
 use Rattle.dl_core.specs.Steps.{World, Aim, Nowhere, Inside, At, Rules, frame_by, with_frame_by, acted_by, at_aim, step_by}
-use Rattle.dl_core.proofs.Maps.{names, get_there, put_at_comm, put_at_same}
+use Rattle.dl_shape.proofs.Names.{names}
+use Rattle.dl_core.proofs.Maps.{get_there, put_at_comm, put_at_same}
 
 -- what a step does to the heap
 pub data Touch : Type 0 where

@@ -33,6 +33,7 @@ use Rattle.dl_core.proofs.Typing.{plain_there}
 use Rattle.dl_core.proofs.Prunes.{Prunes, pruned_trim}
 use Rattle.dl_core.proofs.Lone.{Lone, Ends, IsOne, is_free, is_held, is_shut, local_on, event_on, by_inv}
 use Rattle.dl_core.proofs.WorkOff.{work_off}
+use Rattle.std.proofs.lemmas.Bool.{false_from_ne_true}
 
 -- the object that was sealed first, or else the one that is sealed next
 abbrev first_breach : Option Name → Option Name → Option Name
@@ -95,10 +96,6 @@ module _ (l : Lone) (base : Frame) (serial : Objects) (end : End) (place turns m
       book : HasBook heap l.caller f
       book = l.book heap f inv
 
-      true_if : (b : Bool) → (b ≡ true → ⊥) → b ≡ false
-      true_if true never = absurd (never refl)
-      true_if false never = refl
-
       is_it : (object : Object) → IsHeld heap l.caller name → finite.get heap name ≡ Some object → is_shared (plain heap) (name, plain_object object) ≡ true
       is_it object held there =
           let more = l.several heap f end inv over tidy none name held in
@@ -123,7 +120,7 @@ module _ (l : Lone) (base : Frame) (serial : Objects) (end : End) (place turns m
           → finite.contains_key f.book name ≡ option_map_or (λ (o : Obj). is_shared (plain heap) (name, o)) (finite.get (plain heap) name) false
       by None out None there = ap is_some out ∙ sym (ap (λ o. option_map_or (λ (o : Obj). is_shared (plain heap) (name, o)) o false) (get_plain heap name ∙ ap (option_map plain_object) there))
       by None out (Some object) there = ap is_some out
-          ∙ sym (ap (λ o. option_map_or (λ (o : Obj). is_shared (plain heap) (name, o)) o false) (plain_there heap name object there) ∙ true_if (is_shared (plain heap) (name, plain_object object)) (is_not object out there))
+          ∙ sym (ap (λ o. option_map_or (λ (o : Obj). is_shared (plain heap) (name, o)) o false) (plain_there heap name object there) ∙ false_from_ne_true (is_shared (plain heap) (name, plain_object object)) (is_not object out there))
       by (Some b) found None there = absurd (no_some (sym there ∙ (book.booked name b found).there))
       by (Some b) found (Some object) there =
           let says = book.booked name b found in

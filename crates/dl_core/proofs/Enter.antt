@@ -9,7 +9,8 @@ use Rattle.dl_core.specs.Heaps.{Heap, refs_in, refs, put_at, IsHeld}
 use Rattle.dl_core.proofs.Maps.{weight}
 use Rattle.dl_core.specs.Changes.{IsApart}
 use Rattle.dl_core.specs.Reach.{Links, Reaches, holds, along, IsAbove}
-use Rattle.dl_core.proofs.Maps.{names, get_here, get_there, total-put_at}
+use Rattle.dl_shape.proofs.Names.{names}
+use Rattle.dl_core.proofs.Maps.{get_here, get_there, total-put_at}
 use Rattle.dl_core.proofs.Names.{same_name, same_number, same_some}
 use Rattle.dl_core.proofs.Apart.{held_one}
 

@@ -3,7 +3,7 @@ use Rattle.std.proofs.Common.{◌≡◌, ◌≢◌, ◌⊎◌, inl, inr, ℕ, ze
 use Rattle.std.specs.Prelude.{◌==◌, ◌-ℤ◌, ◌↔◌, pos, slice_get, count_by, sum_by, nat_lt, map, All, Contains, if◌then◌else◌}
 use Rattle.std.specs.List.{flat_map, zip}
 use Rattle.std.specs.Option.{option_map_or}
-use Rattle.std.proofs.lemmas.Bool.{cases_lt}
+use Rattle.std.proofs.lemmas.Bool.{cases_lt, cases_Bool}
 use Rattle.std.proofs.lemmas.Bool.Decides.{nat_tests}
 use Rattle.std.proofs.lemmas.List.Elements.{All-append, All-contains, Contains-get_or, Contains-append_left, Contains-append_right}
 use Rattle.std.proofs.lemmas.List.Sums.{sum_by-set, sum_by-cons, sum_by-append}
@@ -38,7 +38,7 @@ use Rattle.dl_core.specs.Lawful.{IsLawful, for_a_local, AddUp, one_if_entered}
 use Rattle.dl_core.specs.Laws.{IsKept}
 use Rattle.dl_core.specs.Sound.{IsSound, HasCall, Stands, idles, waits, works, HandAt, HasTickets, HasLog, tickets_of, ticket_in_hand, move_in_hand, callers_of, in_hand_at}
 use Rattle.dl_core.proofs.GoodCode.{plans_have_good_code}
-use Rattle.dl_core.proofs.Names.{same_number, same_some, no_some, bools}
+use Rattle.dl_core.proofs.Names.{same_number, same_some, no_some}
 use Rattle.dl_core.proofs.Begins.{local_root, root_local, locals_fit, one_local_each}
 use Rattle.dl_core.proofs.Enter.{entered-IsApart}
 use Rattle.dl_core.proofs.GoesOn.{ready_going}
@@ -198,7 +198,7 @@ module _ (plan : Plan) (core : Core) (calls : Calls) (caller : ℕ) (is : IsPlan
 
     -- the first step uses nothing of the hand
     first_open : (s : Step) → slice_get (steps_of plan frame.call) 0 ≡ Some s → is_use s ≡ false
-    first_open s e = elim (bools (is_use s)) [
+    first_open s e = elim (cases_Bool (is_use s)) [
       | inr not_used ↦ not_used
       | inl used ↦ absurd (by s 0 (good_now.filled 0 s e used) refl)
     ]

@@ -45,7 +45,8 @@ use Rattle.dl_core.specs.Changes.{May, reads, sees, writes, takes, takes_root, l
 use Rattle.dl_core.specs.Lawful.{IsLawful, HasReason, for_a_local, for_fields, for_the_list, for_the_hand}
 use Rattle.dl_core.specs.Sound.{IsSound, HasCall, IsWorking, Stands, idles, waits, works, HandAt, HandWhile, HandBefore, HasCleared, clears, lets_go as lets_go_first, IsClearing, IsFieldInHand, HoldsHand, IsLoose}
 use Rattle.dl_core.proofs.GoodCode.{plans_have_good_code}
-use Rattle.dl_core.proofs.Maps.{AreEntries, entries_are, names}
+use Rattle.dl_lemmas.proofs.Entries.{AreEntries, entries_are}
+use Rattle.dl_shape.proofs.Names.{names}
 use Rattle.dl_core.proofs.Names.{same_some, no_some}
 use Rattle.dl_core.proofs.Rows.{target_held, target_value, none_refers, link_hidden, field_links, first_of_all}
 use Rattle.dl_core.proofs.Typing.{plain_there, node_hidden, field_has_type, no_dangling, no_reference_from}

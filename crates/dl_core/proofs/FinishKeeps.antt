@@ -43,6 +43,8 @@ use Rattle.dl_core.proofs.RefuseKeeps.{entries_within, call_found}
 use Rattle.dl_core.proofs.ReserveKeeps.{history_as, order_as, versions_low, insert_at, part_has}
 use Rattle.dl_core.proofs.TouchesKeep.{busy_caller, not_idle}
 use Rattle.dl_core.proofs.Turned.{IsOwnTurn, world, turned_kept, frame_own, frame_other, for_each, sum_changed}
+use Rattle.std.proofs.lemmas.List.{append-nil}
+use Rattle.dl_lemmas.proofs.Tests.{same_truth}
 
 -- ---- lists
 
@@ -218,15 +220,9 @@ module _ (plan : Plan) (core : Core) (calls : Calls) (caller : ℕ) (is : IsPlan
   allocs_found : allocs_at (source_of plan) calls caller frame.index ≡ allocs_of plan frame.call
   allocs_found = call_found plan calls caller frame sound.lists one w.0
 
-  same_reserves : (b c : Bool) → (b ≡ true → c ≡ true) → (c ≡ true → b ≡ true) → b ≡ c
-  same_reserves true true f g = refl
-  same_reserves true false f g = absurd (let clash : false ≡ true = f refl in cc)
-  same_reserves false true f g = absurd (let clash : false ≡ true = g refl in cc)
-  same_reserves false false f g = refl
-
   both_some : nat_lt 0 (allocs_of plan frame.call) ≡ nat_lt 0 account.reserved_at
   both_some =
-      same_reserves (nat_lt 0 (allocs_of plan frame.call)) (nat_lt 0 account.reserved_at)
+      same_truth (nat_lt 0 (allocs_of plan frame.call)) (nat_lt 0 account.reserved_at)
       (λ b. let some = (h.entered w.1).1 (grind (arith, nat_tests, b)) in grind (arith, nat_tests, some)) (λ b. let some = (h.entered w.1).0 (grind (arith, nat_tests, b)) in grind (arith, nat_tests, some))
 
   reservation_is : reservation_of e (allocs_at (source_of plan) calls caller frame.index) ≡ move_in_hand plan core caller
@@ -237,10 +233,6 @@ module _ (plan : Plan) (core : Core) (calls : Calls) (caller : ℕ) (is : IsPlan
   none_in_hand : move_in_hand plan after caller ≡ []
   none_in_hand = ap (λ (a : Account). if nat_lt 0 a.reserved_at then record { version = a.reserved_at; change = pos 0 -ℤ pos (allocs_of plan (frame_of world' caller).call); ticket = (frame_of world' caller).ticket } ∷ [] else []) account_mine
 
-  append_nil : {Y : Type 0} (ys : List Y) → ys ++ [] ≡ ys
-  append_nil [] = refl
-  append_nil (y ∷ ys) = ap (λ zs. y ∷ zs) (append_nil ys)
-
   grouped : {Y : Type 0} (ps qs rs : List Y) → ps ++ (qs ++ rs) ≡ (ps ++ qs) ++ rs
   grouped [] qs rs = refl
   grouped (p ∷ ps) qs rs = ap (λ zs. p ∷ zs) (grouped ps qs rs)
@@ -248,7 +240,7 @@ module _ (plan : Plan) (core : Core) (calls : Calls) (caller : ℕ) (is : IsPlan
   -- the caller's moves are those that it had, and the return
   part_is : moves_of (source_of plan) calls (entries_of after caller) ++ move_in_hand plan after caller ≡ (moves_of (source_of plan) calls (entries_of core caller) ++ move_in_hand plan core caller) ++ return_of e
   part_is =
-      (λ i. moves_of (source_of plan) calls (entries_mine i) ++ none_in_hand i) ∙ append_nil (moves_of (source_of plan) calls (entries_of core caller ++ e ∷ []))
+      (λ i. moves_of (source_of plan) calls (entries_mine i) ++ none_in_hand i) ∙ append-nil (moves_of (source_of plan) calls (entries_of core caller ++ e ∷ []))
       ∙ flat_push (moves_of_entry (source_of plan) calls) (entries_of core caller) e
       ∙ ap (λ zs. moves_of (source_of plan) calls (entries_of core caller) ++ (zs ++ return_of e)) reservation_is
       ∙ grouped (moves_of (source_of plan) calls (entries_of core caller)) (move_in_hand plan core caller) (return_of e)
@@ -276,7 +268,7 @@ module _ (plan : Plan) (core : Core) (calls : Calls) (caller : ℕ) (is : IsPlan
       inserted t =
           insert_at m (λ d. moves_of (source_of plan) calls (entries_of core d) ++ move_in_hand plan core d) (λ d. moves_of (source_of plan) calls (entries_of after d) ++ move_in_hand plan after d) caller
           (subst (λ zs. Inserted m (moves_of (source_of plan) calls (entries_of core caller) ++ move_in_hand plan core caller) zs) (sym (part_is ∙ ap (λ zs. (moves_of (source_of plan) calls (entries_of core caller) ++ move_in_hand plan core caller) ++ zs) (return_some t)))
-          (subst (λ zs. Inserted m zs ((moves_of (source_of plan) calls (entries_of core caller) ++ move_in_hand plan core caller) ++ m ∷ [])) (append_nil (moves_of (source_of plan) calls (entries_of core caller) ++ move_in_hand plan core caller))
+          (subst (λ zs. Inserted m zs ((moves_of (source_of plan) calls (entries_of core caller) ++ move_in_hand plan core caller) ++ m ∷ [])) (append-nil (moves_of (source_of plan) calls (entries_of core caller) ++ move_in_hand plan core caller))
           (insert_after m (moves_of (source_of plan) calls (entries_of core caller) ++ move_in_hand plan core caller) [] (m ∷ []) here)))
           part_other 1 (length plan.sizes) (omega (arith, one.from_one)) (omega (arith, one.to_last))
 
@@ -288,7 +280,7 @@ module _ (plan : Plan) (core : Core) (calls : Calls) (caller : ℕ) (is : IsPlan
             | inr other ↦ part_other d other
             | inl same ↦
                 subst (λ c. moves_of (source_of plan) calls (entries_of after c) ++ move_in_hand plan after c ≡ moves_of (source_of plan) calls (entries_of core c) ++ move_in_hand plan core c) (sym same)
-                (part_is ∙ ap (λ zs. (moves_of (source_of plan) calls (entries_of core caller) ++ move_in_hand plan core caller) ++ zs) (return_none t) ∙ append_nil (moves_of (source_of plan) calls (entries_of core caller) ++ move_in_hand plan core caller))
+                (part_is ∙ ap (λ zs. (moves_of (source_of plan) calls (entries_of core caller) ++ move_in_hand plan core caller) ++ zs) (return_none t) ∙ append-nil (moves_of (source_of plan) calls (entries_of core caller) ++ move_in_hand plan core caller))
           ]
 
       as_before : (c : Core) → moves_in plan c calls ≡ moves_in plan core calls → c.pool.version ≡ core.pool.version → c.pool.free ≡ core.pool.free → ((d : ℕ) → refusals_of c d ≡ refusals_of core d) → HasLog plan c calls
@@ -309,7 +301,7 @@ module _ (plan : Plan) (core : Core) (calls : Calls) (caller : ℕ) (is : IsPlan
 
   same_tickets : (d : ℕ) → map (λ (kept : Finished). kept.ticket) (frame_of world' d).finished ++ ticket_in_hand (frame_of world' d) ≡ map (λ (kept : Finished). kept.ticket) (frame_of core.world d).finished ++ ticket_in_hand (frame_of core.world d)
   same_tickets = of_each (λ d f. map (λ (kept : Finished). kept.ticket) f.finished ++ ticket_in_hand f ≡ map (λ (kept : Finished). kept.ticket) (frame_of core.world d).finished ++ ticket_in_hand (frame_of core.world d))
-      (append_nil (map (λ (kept : Finished). kept.ticket) (frame.finished ++ finish_of end frame ∷ [])) ∙ pushed frame.finished ∙ ap (λ zs. map (λ (kept : Finished). kept.ticket) frame.finished ++ zs) (sym (in_hand frame.ticket w.1))) (λ d other. refl)
+      (append-nil (map (λ (kept : Finished). kept.ticket) (frame.finished ++ finish_of end frame ∷ [])) ∙ pushed frame.finished ∙ ap (λ zs. map (λ (kept : Finished). kept.ticket) frame.finished ++ zs) (sym (in_hand frame.ticket w.1))) (λ d other. refl)
     where
       pushed : (fs : List Finished) → map (λ (kept : Finished). kept.ticket) (fs ++ finish_of end frame ∷ []) ≡ map (λ (kept : Finished). kept.ticket) fs ++ frame.ticket ∷ []
       pushed [] = refl

@@ -21,11 +21,7 @@ use Rattle.dl_core.specs.Lawful.{IsLawful, AddUp, entered_in, spares_in}
 use Rattle.dl_core.proofs.Names.{same_some, no_some}
 use Rattle.dl_core.proofs.Plain.{get_marked, plain_marked, plain_refs}
 use Rattle.dl_core.proofs.Typing.{no_root_refs}
-
-pub same_everywhere : {X : Type 0} (n i : ℕ) (x : X) → get_or (replicate n x) i x ≡ x
-same_everywhere zero i x = refl
-same_everywhere (suc n) zero x = refl
-same_everywhere (suc n) (suc i) x = same_everywhere n i x
+use Rattle.dl_lemmas.proofs.Places.{same_everywhere}
 
 zero_everywhere : {X : Type 0} (weight : X → ℕ) (n : ℕ) (x : X) → weight x ≡ 0 → sum_by weight (replicate n x) ≡ 0
 zero_everywhere weight zero x z = refl

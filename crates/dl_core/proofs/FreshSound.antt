@@ -23,7 +23,8 @@ use Rattle.dl_core.specs.Reached.{no_calls, calls_of}
 use Rattle.dl_core.specs.Laws.{IsKept}
 use Rattle.dl_core.specs.Sound.{IsSound, HasBook, Stands, idles, HasHistory, KeepsOrder, HasTickets, HasLog, moves_in, move_in_hand, callers_of, tickets_of, ticket_in_hand}
 use Rattle.dl_core.proofs.Names.{same_some, no_some}
-use Rattle.dl_core.proofs.Fresh.{fresh_frame, fresh_heap, fresh_unheld, from_start, fresh_lawful, same_everywhere, nothing_begun}
+use Rattle.dl_lemmas.proofs.Places.{same_everywhere}
+use Rattle.dl_core.proofs.Fresh.{fresh_frame, fresh_heap, fresh_unheld, from_start, fresh_lawful, nothing_begun}
 
 module _ (plan : Plan) (is : IsPlan plan) where
   fresh_account : (d : ℕ) → account_of (fresh plan) d ≡ no_account

@@ -31,13 +31,13 @@ use Rattle.dl_core.proofs.CallerFacts.{no_entries, few_refs, holds_call, few_all
 use Rattle.dl_core.proofs.Fits.{HasFacts, steps_need}
 use Rattle.dl_core.proofs.HeldFew.{book_few, free_more}
 use Rattle.dl_core.proofs.PlacesFew.{objects_few}
-use Rattle.dl_core.proofs.Plain.{entries_changed}
+use Rattle.dl_lemmas.proofs.Entries.{entries-changed}
 use Rattle.dl_core.proofs.RunCounts.{clock_fits, version_fits}
 use Rattle.dl_core.proofs.Why.{why, IsAtStep}
 
 -- marks left aside there are as many objects
 len_plain : (heap : Heap) → finite.len (plain heap) ≡ finite.len heap
-len_plain heap = len-entries (plain heap) ∙ ap length (entries_changed name_cmp plain_object heap) ∙ length-map (finite.entries heap) _ ∙ sym (len-entries heap)
+len_plain heap = len-entries (plain heap) ∙ ap length (entries-changed name_cmp (λ e. plain_object e.1) heap) ∙ length-map (finite.entries heap) _ ∙ sym (len-entries heap)
 
 -- there is memory for all objects
 pub heap_fits : (plan : Plan) (heap : Rows Object) (frames : List Kept) (counters : Counters) (calls : Calls) → IsPlan plan → IsKept plan (core_of heap frames counters) calls → plan.places + 1024 ≤ heap.room → finite.len heap.rows ≤ heap.room

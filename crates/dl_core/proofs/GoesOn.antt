@@ -1,8 +1,8 @@
 -- Local steps keep what holds of their own caller.
-use Rattle.std.proofs.Common.{◌≡◌, ◌++◌, ◌⊎◌, inl, inr, ℕ, ℤ, zero, suc, ◌+◌, ◌-◌, ◌<◌, Bool, true, false, cond, List, [], ◌∷◌, length, get_or, Option, Some, None, refl, sym, ap, subst, ◌∙◌, arith}
+use Rattle.std.proofs.Common.{◌≡◌, ◌++◌, inl, inr, ℕ, ℤ, ◌+◌, ◌-◌, ◌<◌, Bool, true, false, cond, List, [], ◌∷◌, length, get_or, Option, Some, None, refl, sym, ap, subst, ◌∙◌, arith}
 use Rattle.std.specs.Prelude.{slice_get, slice_set, is_some, count_by, nat_le, nat_lt, ◌==◌, ◌&&◌, ◌||◌, Ok, Err, if◌then◌else◌}
 use Rattle.std.specs.FinMap as finite
-use Rattle.std.proofs.lemmas.Bool.{cases_lt}
+use Rattle.std.proofs.lemmas.Bool.{cases_lt, cases_Bool}
 use Rattle.std.proofs.lemmas.List.{length-set, get_or-set_same}
 use Rattle.std.proofs.lemmas.List.Sums.{sum_by-set}
 use Rattle.std.proofs.lemmas.Option.{slice_get-get_or, slice_get_within}
@@ -43,10 +43,11 @@ use Rattle.dl_core.specs.LocalSteps.{Next, Goes, Stops, next_name, on_number, on
 use Rattle.dl_core.specs.Lawful.{HasReason, for_a_local, for_fields, for_the_list, for_the_hand}
 use Rattle.dl_core.specs.Sound.{HasBook, HasLocals, IsFieldInHand, IsAfterRead, HoldsHand, HandBefore, HandWhile, HandAt, HasCleared, clears, lets_go, IsNotClearing, StandsOpen}
 use Rattle.dl_core.proofs.LocalSteps.{found_local, ready_keeps}
-use Rattle.dl_core.proofs.Names.{same_some, no_some, bools, same_named}
+use Rattle.dl_core.proofs.Names.{same_some, no_some, same_named}
 use Rattle.dl_core.proofs.Rows.{target_held, field_refers}
 use Rattle.dl_core.proofs.Typing.{plain_there, field_has_type, no_reference_before}
 use Rattle.dl_core.proofs.Course.{IsGoing, loosen, before_open, loose_as}
+use Rattle.dl_lemmas.proofs.Places.{set_place}
 
 clash : true ≡ false → ⊥
 clash e = cc
@@ -61,7 +62,7 @@ count_set name values local value within = sum_by-set (λ x. cond (refers_to nam
 not_target : (name : Name) (found : Option Value) (value : Value) → found ≡ Some value → (target_of found ≡ Some name → ⊥) → refers_to name value ≡ false
 not_target name found (Int n) e other = refl
 not_target name found (Ref None) e other = refl
-not_target name found (Ref (Some m)) e other = elim (bools (refers_to name (Ref (Some m)))) [
+not_target name found (Ref (Some m)) e other = elim (cases_Bool (refers_to name (Ref (Some m)))) [
   | inr f ↦ f
   | inl t ↦ absurd (other (ap target_of e ∙ ap Some (sym (same_named name m t))))
 ]
@@ -85,7 +86,7 @@ module _ (plan : Plan) (types : List Ty) (steps : List Step) (code : IsGoodCode 
 
   -- behind a step that does not fill the hand stands no use
   pub next_open : (at : ℕ) (s : Step) → slice_get steps at ≡ Some s → fills s ≡ false → (t : Step) → slice_get steps (at + 1) ≡ Some t → is_use t ≡ false
-  next_open at s found f t there = elim (bools (is_use t)) [
+  next_open at s found f t there = elim (cases_Bool (is_use t)) [
     | inr not_used ↦ not_used
     | inl used ↦ absurd (clash (sym (filled_by (at + 1) t (code.filled (at + 1) t there used) at s refl found) ∙ f))
   ]
@@ -204,16 +205,6 @@ module _ (plan : Plan) (heap : Heap) (caller : ℕ) (op : OpDecl) (of_module : I
 
   -- ---- changes of the frame
 
-  get_set : {X : Type 0} (xs : List X) (i j : ℕ) (y v : X) → slice_get (slice_set xs i y) j ≡ Some v → ((i ≡ j) × (y ≡ v)) ⊎ (slice_get xs j ≡ Some v)
-  get_set [] i j y v e = inr e
-  get_set (x ∷ xs) zero zero y v e = inl (refl, same_some e)
-  get_set (x ∷ xs) zero (suc j) y v e = inr e
-  get_set (x ∷ xs) (suc i) zero y v e = inr e
-  get_set (x ∷ xs) (suc i) (suc j) y v e = elim (get_set xs i j y v e) [
-    | inl same ↦ inl (omega (arith, same.0), same.1)
-    | inr old ↦ inr old
-  ]
-
   -- while nothing is loose, what the code has in hand is as the next step wants it, and nothing is being given up
   pub tidy_hand : (frame : Frame) → Going frame → frame.loose ≡ [] → IsNotClearing frame × HandWhile plan heap caller frame op frame.stage
   tidy_hand frame going tidy = subst (HandAt plan heap caller frame op) tidy going.works.hand
@@ -287,8 +278,8 @@ module _ (plan : Plan) (heap : Heap) (caller : ℕ) (op : OpDecl) (of_module : I
         stage = going.works.stage;
         locals = record {
           one_each = length-set frame.locals local value ∙ going.works.locals.one_each;
-          typed = λ l t v a b. elim (get_set frame.locals local l value v b) [
-            | inl new ↦ subst (λ u. HoldsType (plain heap) u v) (same_some (sym declared ∙ ap (slice_get (types_of op)) new.0 ∙ a)) (subst (HoldsType (plain heap) ty) new.1 fits)
+          typed = λ l t v a b. elim (set_place frame.locals local l value v b) [
+            | inl new ↦ subst (λ u. HoldsType (plain heap) u v) (same_some (sym declared ∙ ap (slice_get (types_of op)) (sym new.0) ∙ a)) (subst (HoldsType (plain heap) ty) (sym new.1) fits)
             | inr old ↦ going.works.locals.typed l t v a old
           ];
         };
@@ -297,8 +288,8 @@ module _ (plan : Plan) (heap : Heap) (caller : ℕ) (op : OpDecl) (of_module : I
         own_names = going.works.own_names;
         own_seals = going.works.own_seals;
         no_breach = going.works.no_breach;
-        held = λ l name e. elim (get_set frame.locals local l value (Ref (Some name)) e) [
-          | inl new ↦ held_value name new.1
+        held = λ l name e. elim (set_place frame.locals local l value (Ref (Some name)) e) [
+          | inl new ↦ held_value name (sym new.1)
           | inr old ↦ going.held l name old
         ];
         why = λ name held other. by name other (going.why name held);

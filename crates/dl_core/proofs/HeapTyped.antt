@@ -16,7 +16,8 @@ use Rattle.dl_ir.specs.declared.objects.Obj.{Obj}
 use Rattle.dl_ir.specs.Heap.{IsHeapOf, IsHidden, IsNodeKind, IsRootOf, HasObject, HasType, HasFields}
 use Rattle.dl_core.specs.declared.objects.Object.{Object}
 use Rattle.dl_core.specs.Heaps.{Heap, put_at, refs, plain, plain_object, is_sealed}
-use Rattle.dl_core.proofs.Maps.{names, get_here, get_there}
+use Rattle.dl_shape.proofs.Names.{names}
+use Rattle.dl_core.proofs.Maps.{get_here, get_there}
 use Rattle.dl_core.proofs.Names.{same_name, same_some, no_some}
 use Rattle.dl_core.proofs.Plain.{get_plain}
 use Rattle.dl_core.proofs.Rows.{link_refs, field_links}

@@ -11,7 +11,9 @@ use Rattle.dl_core.specs.declared.objects.Mark.TheVariants as marks
 use Rattle.dl_core.specs.Frames.{Frame}
 use Rattle.dl_core.specs.Heaps.{Heap}
 use Rattle.dl_core.specs.Sound.{HasBook}
-use Rattle.dl_core.proofs.Maps.{names, eq_there, AreEntries, entries_are}
+use Rattle.dl_shape.proofs.Names.{names}
+use Rattle.dl_lemmas.proofs.Maps.{eq_there}
+use Rattle.dl_lemmas.proofs.Entries.{AreEntries, entries_are}
 
 zero_or : (n : ℕ) → (n ≡ 0) ⊎ (0 < n)
 zero_or n = grind arith

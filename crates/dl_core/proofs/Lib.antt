@@ -87,6 +87,5 @@ pub mod Opened
 pub mod Behind
 pub mod LastRun
 pub mod Owners
-pub mod Added
 pub mod Elements
 pub mod Small

@@ -24,7 +24,8 @@ use Rattle.dl_core.specs.Reached.{Calls}
 use Rattle.dl_core.specs.Reach.{ticket_in}
 use Rattle.dl_core.specs.Lawful.{IsLawful, HasReason, for_a_local, for_fields, for_the_list, for_the_hand}
 use Rattle.dl_core.specs.Sound.{IsSound, HandAt, HandWhile}
-use Rattle.dl_core.proofs.Maps.{AreEntries, entries_are, names}
+use Rattle.dl_lemmas.proofs.Entries.{AreEntries, entries_are}
+use Rattle.dl_shape.proofs.Names.{names}
 use Rattle.dl_core.proofs.Names.{same_some, no_some, same_number}
 use Rattle.dl_core.proofs.Plain.{get_plain}
 use Rattle.dl_core.proofs.Rows.{target_held, target_value, none_refers}

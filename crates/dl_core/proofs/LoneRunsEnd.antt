@@ -23,7 +23,7 @@ use Rattle.dl_meaning.specs.Fitting.{Fits}
 use Rattle.dl_meaning.specs.Operations.{begun, context_of}
 use Rattle.dl_meaning.specs.Single.{outcome}
 use Rattle.dl_meaning.proofs.Left.{begun_fits, is_positive, calls_give_the_outcome}
-use Rattle.dl_meaning.proofs.Places.{all_at, same_place}
+use Rattle.dl_lemmas.proofs.Places.{all_at, same_place}
 use Rattle.dl_meaning.proofs.Sound.{sound_block}
 use Rattle.dl_instr.specs.declared.steps.Step.TheVariants.{Give}
 use Rattle.dl_instr.specs.Code.{op_code, block_code}

@@ -17,7 +17,8 @@ use Rattle.std.specs.Option.{option_map}
 use Rattle.dl_ir.specs.Rows.{Rows}
 use Rattle.dl_core.specs.Heaps.{put_at}
 use Rattle.dl_core.specs.Events.{moved_on}
-use Rattle.dl_core.proofs.Maps.{names, put_at_same}
+use Rattle.dl_shape.proofs.Names.{names}
+use Rattle.dl_core.proofs.Maps.{put_at_same}
 use Rattle.dl_core.proofs.Tidy.{tidy_without}
 
 -- the facts on a frame that the memory and the roots of another go with

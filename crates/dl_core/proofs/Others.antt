@@ -23,7 +23,8 @@ use Rattle.dl_core.specs.Plans.{Plan}
 use Rattle.dl_core.specs.Frames.{Frame, IsEntered}
 use Rattle.dl_core.specs.Changes.{May, reads, sees, writes, takes, takes_root, lets_go, seals, gives_up, makes, IsOwn}
 use Rattle.dl_core.specs.Sound.{HasBook, IsLoose, HasLoose, IsFieldInHand, HoldsHand, HandBefore, HasCleared, clears, lets_go as lets_go_first, HandWhile, HandAt, IsWorking}
-use Rattle.dl_core.proofs.Maps.{names, get_here, get_there}
+use Rattle.dl_shape.proofs.Names.{names}
+use Rattle.dl_core.proofs.Maps.{get_here, get_there}
 use Rattle.dl_core.proofs.Names.{same_name, same_some, no_some}
 use Rattle.dl_core.proofs.Counts.{refs-kept}
 use Rattle.dl_core.proofs.Apart.{Kept, held, taken, made, rooted, held_after}

@@ -12,7 +12,8 @@ use Rattle.dl_core.specs.Laws.{IsKept}
 use Rattle.dl_core.specs.LocalSteps.{due}
 use Rattle.dl_core.specs.Plans.{Plan, IsPlan, locals_of, fuel_of}
 use Rattle.dl_core.specs.Reached.{Calls, IsReached, MayBegin, starts, begins, steps}
-use Rattle.dl_core.proofs.Fresh.{fresh_frame, same_everywhere}
+use Rattle.dl_lemmas.proofs.Places.{same_everywhere}
+use Rattle.dl_core.proofs.Fresh.{fresh_frame}
 use Rattle.dl_core.proofs.Kept.{ready_same}
 use Rattle.dl_core.proofs.LawfulAlways.{lawful_always}
 use Rattle.dl_core.proofs.Machine.{StepIs, reserves_now, refuses_now, enters_now, finishes_now, touches_one, step_is}

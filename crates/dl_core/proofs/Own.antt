@@ -31,7 +31,8 @@ use Rattle.dl_core.specs.Core.{Core, frame_of}
 use Rattle.dl_core.specs.Reached.{Calls}
 use Rattle.dl_core.specs.Lawful.{IsLawful, HasReason, for_a_local, for_fields, for_the_list, for_the_hand}
 use Rattle.dl_core.specs.Sound.{IsSound, HandBefore, HandAt, HasCleared, clears}
-use Rattle.dl_core.proofs.Maps.{names, put_at_same}
+use Rattle.dl_shape.proofs.Names.{names}
+use Rattle.dl_core.proofs.Maps.{put_at_same}
 use Rattle.dl_core.proofs.Names.{same_some, no_some}
 use Rattle.dl_core.proofs.Kept.{ready_same}
 use Rattle.dl_core.proofs.Why.{IsAtStep, IsGivenUp}

@@ -40,7 +40,8 @@ use Rattle.dl_core.specs.Reach.{ticket_in}
 use Rattle.dl_core.specs.Lawful.{IsLawful, for_the_hand}
 use Rattle.dl_core.specs.Sound.{IsSound, IsLoose, IsAfterRead, HandBefore, HandWhile, HandAt, HasCleared, clears, lets_go, IsNotClearing, StandsOpen}
 use Rattle.std.proofs.lemmas.Bool.{cases_lt}
-use Rattle.dl_core.proofs.Maps.{names, get_here}
+use Rattle.dl_shape.proofs.Names.{names}
+use Rattle.dl_core.proofs.Maps.{get_here}
 use Rattle.dl_core.proofs.Names.{same_some, no_some}
 use Rattle.dl_core.proofs.Counts.{same_refs}
 use Rattle.dl_core.proofs.Why.{IsAtStep, IsGivenUp}

@@ -1,9 +1,9 @@
 -- Each write of a caller that has entered keeps what holds of that caller.
-use Rattle.std.proofs.Common.{◌≡◌, ◌≢◌, ◌⊎◌, inl, inr, ℕ, zero, suc, ◌+◌, ◌-◌, ◌<◌, ◌≤◌, Bool, true, false, cond, List, [], ◌∷◌, length, get_or, Option, Some, None, refl, sym, ap, subst, ◌∙◌, arith}
+use Rattle.std.proofs.Common.{◌≡◌, ◌≢◌, ◌⊎◌, inl, inr, ℕ, ◌+◌, ◌-◌, ◌<◌, ◌≤◌, Bool, true, false, cond, List, [], ◌∷◌, length, get_or, Option, Some, None, refl, sym, ap, subst, ◌∙◌, arith}
 use Rattle.std.specs.Prelude.{slice_get, slice_set}
 use Rattle.std.specs.Option.{option_map}
 use Rattle.std.specs.FinMap as finite
-use Rattle.std.proofs.lemmas.Bool.{cases_lt}
+use Rattle.std.proofs.lemmas.Bool.{cases_lt, cases_Bool}
 use Rattle.std.proofs.lemmas.List.{length-set, get_or-set_same, get_or-set_other}
 use Rattle.std.proofs.lemmas.Option.{slice_get-get_or, slice_get_within}
 use Rattle.dl_ir.specs.declared.modules.FieldDecl.{FieldDecl}
@@ -33,8 +33,9 @@ use Rattle.dl_core.specs.Core.{Core, frame_of}
 use Rattle.dl_core.specs.Reached.{Calls}
 use Rattle.dl_core.specs.Lawful.{IsLawful, HasReason, for_a_local, for_fields, for_the_list, for_the_hand}
 use Rattle.dl_core.specs.Sound.{IsSound, IsBooked, HasBook, IsFieldInHand, HandBefore, HandAt, HasCleared, clears, IsNotClearing, StandsOpen}
-use Rattle.dl_core.proofs.Maps.{names, get_here, get_there}
-use Rattle.dl_core.proofs.Names.{same_name, same_named, name_itself, same_some, no_some, bools}
+use Rattle.dl_shape.proofs.Names.{names}
+use Rattle.dl_core.proofs.Maps.{get_here, get_there}
+use Rattle.dl_core.proofs.Names.{same_name, same_named, name_itself, same_some, no_some}
 use Rattle.dl_core.proofs.Counts.{refs_write}
 use Rattle.dl_core.proofs.Kept.{same_loosened}
 use Rattle.dl_core.proofs.Why.{IsAtStep, IsGivenUp}
@@ -47,6 +48,8 @@ use Rattle.dl_core.proofs.HiddenCount.{hidden_same}
 use Rattle.dl_core.proofs.Events.{Works, local_hidden, hand_before, cleared, cleared_hand, IsCleared, WriteFits, write_fits}
 use Rattle.dl_core.proofs.Own.{Keeps, going_now}
 use Rattle.dl_core.proofs.Changed as changed
+use Rattle.dl_lemmas.proofs.Places.{set_place}
+use Rattle.std.proofs.Math.ListN.{get_or-eq_default}
 
 held_sealed : {c t : ℕ} → Held c ≡ Sealed t → ⊥
 held_sealed e = cc
@@ -107,19 +110,9 @@ count_yes v n e = ap {B = ℕ} (λ b. cond b 1 0) (ap (refers_to n) (target_valu
 count_no : (v : Value) (n : Name) → (target_in v ≡ Some n → ⊥) → ◌≡◌ {A = ℕ} (cond (refers_to n v) 1 0) 0
 count_no (Int k) n other = refl
 count_no (Ref None) n other = refl
-count_no (Ref (Some m)) n other = elim (bools (refers_to n (Ref (Some m)))) [
+count_no (Ref (Some m)) n other = elim (cases_Bool (refers_to n (Ref (Some m)))) [
   | inr f ↦ ap {B = ℕ} (λ b. cond b 1 0) f
   | inl t ↦ absurd (other (ap Some (sym (same_named n m t))))
-]
-
-get_set : {X : Type 0} (xs : List X) (i j : ℕ) (y v : X) → slice_get (slice_set xs i y) j ≡ Some v → ((i ≡ j) × (y ≡ v)) ⊎ (slice_get xs j ≡ Some v)
-get_set [] i j y v e = inr e
-get_set (x ∷ xs) zero zero y v e = inl (refl, same_some e)
-get_set (x ∷ xs) zero (suc j) y v e = inr e
-get_set (x ∷ xs) (suc i) zero y v e = inr e
-get_set (x ∷ xs) (suc i) (suc j) y v e = elim (get_set xs i j y v e) [
-  | inl same ↦ inl (omega (arith, same.0), same.1)
-  | inr old ↦ inr old
 ]
 
 module _ (plan : Plan) (core : Core) (calls : Calls) (caller : ℕ) (is : IsPlan plan) (lawful : IsLawful plan core calls) (sound : IsSound plan core calls) where
@@ -163,8 +156,8 @@ module _ (plan : Plan) (core : Core) (calls : Calls) (caller : ℕ) (is : IsPlan
         heap_kept (source_of plan) heap x sound.heap (Some written) (Some object) there
         (changes object written refl (λ z. refl) (λ declared e f. record {
           one_each = length-set object.fields field value ∙ f.one_each;
-          typed = λ at d v a b. elim (get_set object.fields field at value v b) [
-            | inl new ↦ subst (HasType (plain heap) d.ty) new.1 (typed declared d e (ap (slice_get declared.fields) new.0 ∙ a))
+          typed = λ at d v a b. elim (set_place object.fields field at value v b) [
+            | inl new ↦ subst (HasType (plain heap) d.ty) (sym new.1) (typed declared d e (ap (slice_get declared.fields) (sym new.0) ∙ a))
             | inr kept ↦ f.typed at d v a kept
           ];
         }))
@@ -383,16 +376,11 @@ module _ (plan : Plan) (core : Core) (calls : Calls) (caller : ℕ) (is : IsPlan
       within : field < length object.fields
       within = elim (cases_lt field (length object.fields)) [
         | inl less ↦ less
-        | inr past ↦ absurd (null_there (sym (past_end object.fields field past) ∙ old_is))
+        | inr past ↦ absurd (null_there (sym (get_or-eq_default object.fields (Ref None) past) ∙ old_is))
       ]
         where
           null_there : Ref None ≡ Ref (Some target) → ⊥
           null_there e = cc
-
-          past_end : (values : List Value) (i : ℕ) → length values ≤ i → get_or values i (Ref None) ≡ Ref None
-          past_end [] i l = refl
-          past_end (v ∷ vs) zero l = absurd (omega arith)
-          past_end (v ∷ vs) (suc i) l = past_end vs i (omega arith)
 
       null_type : (ty : Ty) (v : Value) → v ≡ Ref (Some target) → HasType (plain heap) ty v → HasType (plain heap) ty (Ref None)
       null_type types.Int (Int n) e h = absurd (let clash : Int n ≡ Ref (Some target) = e in cc)

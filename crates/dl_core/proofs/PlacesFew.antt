@@ -10,9 +10,10 @@ use Rattle.dl_ir.specs.declared.names.Name.{Name}
 use Rattle.dl_ir.specs.declared.objects.Obj.{Obj}
 use Rattle.dl_ir.specs.Heap.{Objects, IsHeapOf, HasStart, hidden_count}
 use Rattle.dl_ir.specs.declared.modules.Module.{Module}
-use Rattle.dl_core.proofs.Maps.{names, AreEntries, IsNoKey, entries_are}
+use Rattle.dl_shape.proofs.Names.{names}
+use Rattle.dl_lemmas.proofs.Entries.{AreEntries, IsNoKey, entries_are}
 use Rattle.dl_core.proofs.RootNumbers.{in_row}
-use Rattle.dl_core.proofs.Names.{no_bool}
+use Rattle.dl_lemmas.proofs.Tests.{not_both}
 
 -- the numbers of the roots among entries
 abbrev index_if : Bool → ℕ → List ℕ → List ℕ
@@ -61,7 +62,7 @@ distinct objects (e ∷ es) are = distinct_if e es are.1 (nat_lt 0 e.0.ticket) r
 
 module _ (source : Module) (start : HasStart source) (objects : Objects) (is : IsHeapOf source objects) where
   below : (es : List (Name × Obj)) → AreEntries objects es → (q : ℕ) → list_any (nat_eq q) (numbers es) ≡ true → q < 1024
-  below [] are q e = absurd (no_bool e refl)
+  below [] are q e = absurd (not_both e refl)
   below (e ∷ es) are q among = by (nat_lt 0 e.0.ticket) refl (below es are.2 q) among
     where
       root_few : nat_lt 0 e.0.ticket ≡ false → e.0.index < 1024

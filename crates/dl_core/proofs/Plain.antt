@@ -1,56 +1,31 @@
 -- Heaps with their marks left aside.
-use Rattle.std.proofs.Common.{◌≡◌, Bool, true, false, cond, ◌&&◌, List, [], ◌∷◌, map, Option, Some, None, refl, sym, ap, subst, ◌∙◌, T, Ordering, arith}
+use Rattle.std.proofs.Common.{◌≡◌, Bool, true, false, cond, List, [], ◌∷◌, map, Option, Some, None, refl, sym, ap, ◌∙◌, Ordering, arith}
 use Rattle.std.specs.Prelude.{sum_by, count_by}
 use Rattle.std.specs.Option.{option_map}
-use Rattle.std.specs.Ordering.{is_lt, eq_by_cmp}
+use Rattle.std.specs.Ordering.{eq_by_cmp}
 use Rattle.std.specs.FinMap as finite
-use Rattle.std.specs.FinMap.{FinMap, is_sorted, find, entries_sorted, entries-from_sorted, get-from_sorted, get-entries, same_map, entries_sorted}
-use Rattle.std.specs.FinMap.Entries.{below_all}
+use Rattle.std.specs.FinMap.{same_map}
 use Rattle.std.proofs.lemmas.List.Sums.{sum_by-cons}
 use Rattle.dl_ir.specs.declared.names.Name.{Name}
 use Rattle.dl_ir.specs.declared.objects.Obj.{Obj}
 use Rattle.dl_ir.specs.Heap.{Objects, name_cmp}
 use Rattle.dl_ir.specs.References as references
 use Rattle.dl_core.specs.declared.objects.Object.{Object}
-use Rattle.dl_core.specs.Heaps.{Heap, put_at, total, refs, refs_in, changed, plain, plain_object, marked, marked_object, is_sealed, first_mark}
-use Rattle.dl_core.proofs.Maps.{names, get-put_at}
+use Rattle.dl_core.specs.Heaps.{Heap, put_at, total, refs, refs_in, plain, plain_object, marked, marked_object, is_sealed, first_mark}
+use Rattle.dl_shape.proofs.Names.{names}
+use Rattle.dl_core.proofs.Maps.{get-put_at}
+use Rattle.dl_lemmas.proofs.Entries.{get-changed, entries-changed}
 
 module _ {K X Y : Type 0} (R : K → K → Ordering) (change : X → Y) where
   abbrev pub changed_entry : K × X → K × Y
   changed_entry e = (e.0, change e.1)
 
-  below_changed : (x : K) (es : List (K × X)) → below_all R x (map changed_entry es) ≡ below_all R x es
-  below_changed x [] = refl
-  below_changed x (e ∷ es) = ap (λ b. is_lt (R x e.0) && b) (below_changed x es)
-
-  sorted_changed : (es : List (K × X)) → is_sorted R (map changed_entry es) ≡ is_sorted R es
-  sorted_changed [] = refl
-  sorted_changed (e ∷ es) = λ i. below_changed e.0 es i && sorted_changed es i
-
-  found_changed : (q : K) (es : List (K × X)) → find R q (map changed_entry es) ≡ option_map change (find R q es)
-  found_changed q [] = refl
-  found_changed q (e ∷ es) =
-      elim (eq_by_cmp R q e.0) as (λ b. cond b (Some (change e.1)) (find R q (map changed_entry es)) ≡ option_map change (cond b (Some e.1) (find R q es))) [
-        | true ↦ refl
-        | false ↦ found_changed q es
-      ]
-
-  pub still_sorted : (m : FinMap R X) → T (is_sorted R (map changed_entry (finite.entries m)))
-  still_sorted m = subst T (sym (sorted_changed (finite.entries m))) (entries_sorted m)
-
-  -- what is found in a map whose values are changed
-  pub get_changed : (m : FinMap R X) (q : K) → finite.get (changed change m) q ≡ option_map change (finite.get m q)
-  get_changed m q = get-from_sorted R (map changed_entry (finite.entries m)) q (still_sorted m) ∙ found_changed q (finite.entries m) ∙ ap (option_map change) (sym (get-entries m q))
-
-  pub entries_changed : (m : FinMap R X) → finite.entries (changed change m) ≡ map changed_entry (finite.entries m)
-  entries_changed m = entries-from_sorted R (map changed_entry (finite.entries m)) (still_sorted m)
-
 -- what a plain heap has under a name
 pub get_plain : (heap : Heap) (name : Name) → finite.get (plain heap) name ≡ option_map plain_object (finite.get heap name)
-get_plain heap name = get_changed name_cmp plain_object heap name
+get_plain heap name = get-changed name_cmp plain_object heap name
 
 pub get_marked : (objects : Objects) (name : Name) → finite.get (marked objects) name ≡ option_map marked_object (finite.get objects name)
-get_marked objects name = get_changed name_cmp marked_object objects name
+get_marked objects name = get-changed name_cmp marked_object objects name
 
 mapped : {A B : Type 0} (f : A → B) (b : Bool) (v : Option A) (o : Option A) → option_map f (cond b v o) ≡ cond b (option_map f v) (option_map f o)
 mapped f true v o = refl
@@ -89,4 +64,4 @@ same_sum name (e ∷ es) =
 -- as many fields refer to a name in the plain heap
 pub plain_refs : (heap : Heap) (name : Name) → references.refs (plain heap) name ≡ refs heap name
 unfolding total
-plain_refs heap name = ap (sum_by (λ (e : Name × Obj). count_by (references.refers_to name) e.1.fields)) (entries_changed name_cmp plain_object heap) ∙ same_sum name (finite.entries heap)
+plain_refs heap name = ap (sum_by (λ (e : Name × Obj). count_by (references.refers_to name) e.1.fields)) (entries-changed name_cmp (λ e. plain_object e.1) heap) ∙ same_sum name (finite.entries heap)

@@ -13,8 +13,10 @@ use Rattle.dl_shape.proofs.Order.{order_does_not_matter}
 use Rattle.dl_ir.proofs.Keeping.{field_counted}
 use Rattle.std.proofs.lemmas.List.Sums.{sum_by-cons}
 use Rattle.dl_core.specs.Heaps.{put_at, total}
-use Rattle.dl_core.proofs.Maps.{names, weight, get_here, get_there, put_at_comm, total-put_at}
-use Rattle.dl_core.proofs.Names.{same_name, same_named, no_some, bools}
+use Rattle.dl_shape.proofs.Names.{names}
+use Rattle.dl_core.proofs.Maps.{weight, get_here, get_there, put_at_comm, total-put_at}
+use Rattle.std.proofs.lemmas.Bool.{cases_Bool}
+use Rattle.dl_core.proofs.Names.{same_name, same_named, no_some}
 
 -- removals of loose objects lead from the one heap to the other, in some order
 pub data Prunes : Objects → Objects → Type 0 where
@@ -107,7 +109,7 @@ IsKeptIn left (Ref (Some name)) = (object : Obj) × (finite.get left name ≡ So
 not_to : (left : Objects) (name : Name) → finite.get left name ≡ None → (value : Value) → IsKeptIn left value → refers_to name value ≡ false
 not_to left name none (Int number) kept = refl
 not_to left name none (Ref None) kept = refl
-not_to left name none (Ref (Some target)) kept = elim (bools (refers_to name (Ref (Some target)))) [
+not_to left name none (Ref (Some target)) kept = elim (cases_Bool (refers_to name (Ref (Some target)))) [
   | inl t ↦ absurd (no_some (sym none ∙ ap (finite.get left) (same_named name target t) ∙ kept.1))
   | inr f ↦ f
 ]

@@ -15,7 +15,9 @@ use Rattle.dl_core.specs.Frames.{Frame, Book, recounted, lowered, raised, loosen
 use Rattle.dl_core.specs.Events.{moved_past}
 use Rattle.dl_core.specs.Shown.{shown, rooms_of, CanGoOn, AreTidy}
 use Rattle.dl_core.proofs.Kept.{same_loosened}
-use Rattle.dl_core.proofs.Maps.{names, put_at_same, get-put_at, same_key}
+use Rattle.dl_shape.proofs.Names.{names}
+use Rattle.dl_lemmas.proofs.Maps.{same_key}
+use Rattle.dl_core.proofs.Maps.{put_at_same, get-put_at}
 use Rattle.dl_core.proofs.Moves.{can_with}
 
 module _ (book : Book) (name : Name) (booked other : Booked) (e : finite.get book name ≡ Some booked) where

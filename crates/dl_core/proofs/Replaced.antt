@@ -1,29 +1,24 @@
 -- What a table has after a value was removed, changed and put back.
-use Rattle.std.proofs.Common.{◌≡◌, ℕ, ◌+◌, ◌-◌, ◌<◌, ◌≤◌, ◌⊎◌, inl, inr, true, false, cond, Option, Some, None, refl, sym, ap, subst, ◌∙◌, arith}
+use Rattle.std.proofs.Common.{◌≡◌, ℕ, ◌+◌, ◌-◌, ◌<◌, ◌≤◌, ◌⊎◌, inl, inr, cond, Option, Some, None, refl, sym, ap, subst, ◌∙◌, arith}
 use Rattle.std.specs.Prelude.{is_some}
 use Rattle.std.specs.Option.{option_map}
-use Rattle.std.specs.Ordering.{eq_by_cmp}
 use Rattle.std.specs.FinMap as finite
-use Rattle.std.specs.FinMap.{FinMap, get-insert, get-remove, len-insert, len-remove, same_map, empty_of_len, get-empty}
+use Rattle.std.specs.FinMap.{FinMap, len-insert, len-remove, empty_of_len, get-empty}
 use Rattle.dl_ir.specs.declared.names.Name.{Name}
 use Rattle.dl_ir.specs.Heap.{name_cmp}
 use Rattle.dl_ir.specs.Rows.{Rows}
 use Rattle.dl_core.specs.Heaps.{put_at}
-use Rattle.dl_core.proofs.Maps.{names}
+use Rattle.dl_shape.proofs.Names.{names}
+use Rattle.dl_lemmas.proofs.Maps.{put_over}
 
 no_one : {X : Type 0} {x : X} → Some x ≡ None → ⊥
 no_one e = cc
 
 module _ {X : Type 0} (m : FinMap name_cmp X) (name : Name) where
-  over : (x : X) → finite.insert (finite.remove m name) name x ≡ finite.insert m name x
-  over x = same_map names.total names.same _ _ (λ q. get-insert names.total _ name x q ∙ ap (cond (eq_by_cmp name_cmp q name) (Some x)) (get-remove names.total m name q)
-      ∙ elim (eq_by_cmp name_cmp q name) as (λ b. cond b (Some x) (cond b None (finite.get m q)) ≡ cond b (Some x) (finite.get m q)) [ true ↦ refl | false ↦ refl ]
-      ∙ sym (get-insert names.total m name x q))
-
   -- a value that is there was changed
   pub put_back : (change : X → X) (x : X) → Some x ≡ finite.get m name → finite.insert (finite.remove m name) name (change x) ≡ put_at m name (option_map change (finite.get m name))
   unfolding put_at
-  put_back change x e = over (change x) ∙ ap (λ (o : Option X). put_at m name (option_map change o)) e
+  put_back change x e = put_over names m name (change x) ∙ ap (λ (o : Option X). put_at m name (option_map change o)) e
 
   -- there is none
   pub put_none : (change : X → X) → None ≡ finite.get m name → finite.remove m name ≡ put_at m name (option_map change (finite.get m name))

@@ -14,7 +14,9 @@ use Rattle.dl_core.specs.declared.objects.Object.{Object}
 use Rattle.dl_core.specs.Heaps.{Heap, refs, refs_in, field_of, total}
 use Rattle.dl_core.specs.Reach.{Links}
 use Rattle.dl_core.specs.Changes.{IsCounted}
-use Rattle.dl_core.proofs.Maps.{weight, AreEntries, entries_are, names, total-put_at}
+use Rattle.dl_lemmas.proofs.Entries.{AreEntries, entries_are}
+use Rattle.dl_shape.proofs.Names.{names}
+use Rattle.dl_core.proofs.Maps.{weight, total-put_at}
 use Rattle.dl_core.proofs.Names.{name_itself, no_some}
 
 -- ---- values and fields

@@ -12,12 +12,15 @@ use Rattle.dl_core.specs.declared.stages.Booked.{Booked}
 use Rattle.dl_core.specs.Heaps.{put_at}
 use Rattle.dl_core.specs.Frames.{Frame, Book, is_among, is_to_loosen, locals_to}
 use Rattle.dl_core.specs.Shown.{AreTidy, IsTidy}
-use Rattle.dl_core.proofs.Maps.{names, get_there}
-use Rattle.dl_core.proofs.Names.{name_itself, same_named, no_bool, both_true}
+use Rattle.dl_shape.proofs.Names.{names}
+use Rattle.dl_core.proofs.Maps.{get_there}
+use Rattle.dl_lemmas.proofs.Tests.{not_both, and_parts}
+use Rattle.dl_core.proofs.Names.{name_itself, name_differs}
+use Rattle.std.proofs.lemmas.Bool.{not-true}
 
 -- the name that stands first is not among the others
 apart : (name other : Name) (others : List Name) → is_among name (other ∷ others) ≡ false → (name ≢ other) × (is_among name others ≡ false)
-apart name other others e = (λ same. no_bool (subst (λ n. is_among name (n ∷ others) ≡ true) same (here name others)) e, rest (name_eq name other) (is_among name others) e)
+apart name other others e = (λ same. not_both (subst (λ n. is_among name (n ∷ others) ≡ true) same (here name others)) e, rest (name_eq name other) (is_among name others) e)
   where
     here : (n : Name) (ns : List Name) → is_among n (n ∷ ns) ≡ true
     here n ns = rw (name_itself n) refl
@@ -50,7 +53,7 @@ few_loose book (name ∷ others) tidy =
 
     some_held : (b : Book) (n : Name) → finite.contains_key b n ≡ true → 0 < finite.len b
     some_held b n e = elim (zero_or (finite.len b)) [
-      | inl none ↦ absurd (no_bool (subst (λ m. finite.contains_key m n ≡ true) (empty_of_len b none) e) (ap is_some (get-empty name_cmp n)))
+      | inl none ↦ absurd (not_both (subst (λ m. finite.contains_key m n ≡ true) (empty_of_len b none) e) (ap is_some (get-empty name_cmp n)))
       | inr some ↦ some
     ]
 
@@ -59,25 +62,18 @@ tidy_more : (book : Book) (loose : List Name) (name : Name) → finite.contains_
 tidy_more book [] name there e tidy = (there, refl, tt)
 tidy_more book (other ∷ others) name there e tidy =
     let a = apart name other others e in
-    let differs : name_eq other name ≡ false = not_same other name (λ same. a.0 (sym same)) in
+    let differs : name_eq other name ≡ false = name_differs other name (λ same. a.0 (sym same)) in
     (tidy.0, list_any-append (name_eq other) others (name ∷ []) ∙ ap (λ b. b || (name_eq other name || false)) tidy.1 ∙ ap (λ b. false || (b || false)) differs, tidy_more book others name there a.1 tidy.2)
-  where
-    not_same : (n m : Name) → n ≢ m → name_eq n m ≡ false
-    not_same n m d = elim (name_eq n m) as (λ b. name_eq n m ≡ b → b ≡ false) [ true ↦ λ is. absurd (d (same_named n m is)) | false ↦ λ is. refl ] refl
 
 -- an object that is to be loose is held, and is not loose yet
 to_loosen : (frame : Frame) (name : Name) → is_to_loosen frame name ≡ true → (finite.contains_key frame.book name ≡ true) × (is_among name frame.loose ≡ false)
 to_loosen frame name e =
-    let parts = both_true (option_map_or (λ (booked : Booked). nat_le booked.fields 1) (finite.get frame.book name) false && (locals_to frame name == 0)) (not (is_among name frame.loose)) e in
-    (held (finite.get frame.book name) (both_true (option_map_or (λ (booked : Booked). nat_le booked.fields 1) (finite.get frame.book name) false) (locals_to frame name == 0) parts.0).0, none (is_among name frame.loose) parts.1)
+    let parts = and_parts (option_map_or (λ (booked : Booked). nat_le booked.fields 1) (finite.get frame.book name) false && (locals_to frame name == 0)) (not (is_among name frame.loose)) e in
+    (held (finite.get frame.book name) (and_parts (option_map_or (λ (booked : Booked). nat_le booked.fields 1) (finite.get frame.book name) false) (locals_to frame name == 0) parts.0).0, not-true (is_among name frame.loose) parts.1)
   where
     held : (found : Option Booked) → option_map_or (λ (booked : Booked). nat_le booked.fields 1) found false ≡ true → is_some found ≡ true
     held None f = f
     held (Some booked) f = refl
-
-    none : (b : Bool) → not b ≡ true → b ≡ false
-    none true f = absurd (cc)
-    none false f = refl
 
 pub loosened_tidy : (frame : Frame) (name : Name) → is_to_loosen frame name ≡ true → IsTidy frame → IsTidy (record frame { loose = frame.loose ++ name ∷ [] })
 loosened_tidy frame name e tidy = let parts = to_loosen frame name e in tidy_more frame.book frame.loose name parts.0 parts.1 tidy

@@ -18,7 +18,8 @@ use Rattle.dl_core.specs.Frames.{Frame}
 use Rattle.dl_core.specs.Heaps.{Heap, put_at, field_of}
 use Rattle.dl_core.specs.Plans.{Plan}
 use Rattle.dl_core.specs.Shared.{seen_of, touched, touched_by, Touched}
-use Rattle.dl_core.proofs.Maps.{names, put_at_same}
+use Rattle.dl_shape.proofs.Names.{names}
+use Rattle.dl_core.proofs.Maps.{put_at_same}
 
 -- what was seen is of an object that is there
 pub record IsSeen (found : Option Object) (seen : Seen) : Type 0 where

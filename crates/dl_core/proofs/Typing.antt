@@ -24,6 +24,7 @@ use Rattle.dl_core.specs.Plans.{Plan, source_of, fields_of, first_reference, ref
 use Rattle.dl_core.proofs.Names.{name_differs, same_some, no_some}
 use Rattle.dl_core.proofs.Plain.{get_plain}
 use Rattle.dl_core.proofs.Rows.{no_refs}
+use Rattle.std.proofs.Math.ListN.{get_or-eq_default}
 
 -- an object of the plain heap is one of the heap
 pub plain_there : (heap : Heap) (name : Name) (object : Object) → finite.get heap name ≡ Some object → finite.get (plain heap) name ≡ Some (plain_object object)
@@ -70,14 +71,9 @@ module _ (source : Module) (heap : Heap) (is : IsHeapOf source (plain heap)) whe
             let has : slice_get object.fields at ≡ Some (field_of object at) = slice_get-get_or object.fields at (Ref None) within in
             let some : at < length declared.0.fields = omega (arith, held.one_each) in
             by (get_or declared.0.fields at (record { name = []; ty = types.Int })).ty (held.typed at _ (Ref (Some name)) (slice_get-get_or declared.0.fields at (record { name = []; ty = types.Int }) some) (has ∙ ap Some e))
-        | inr past ↦ absurd (let nothing : Ref (Some name) ≡ Ref None = sym e ∙ past_end object.fields at past in cc)
+        | inr past ↦ absurd (let nothing : Ref (Some name) ≡ Ref None = sym e ∙ get_or-eq_default object.fields (Ref None) past in cc)
       ]
     where
-      past_end : (values : List Value) (i : ℕ) → length values ≤ i → get_or values i (Ref None) ≡ Ref None
-      past_end [] i l = refl
-      past_end (v ∷ vs) zero l = absurd (omega arith)
-      past_end (v ∷ vs) (suc i) l = past_end vs i (omega arith)
-
       by : (ty : Ty) → HasType (plain heap) ty (Ref (Some name)) → IsHidden name × ((found : Obj) × (finite.get (plain heap) name ≡ Some found))
       by types.Int h = absurd h
       by (types.Of kind) h = (h.0, (h.1.object, h.1.is_there))
@@ -138,17 +134,12 @@ no_reference_from plan heap is name object there from none at le =
           let k = dropped from at declared.0.fields le in
           let int : field.ty ≡ types.Int = no_more from (drop from declared.0.fields) (ap (λ fs. first_reference from (drop from fs)) (sym fields) ∙ none) k.0 field (k.1 ∙ its) in
           by (field_of object at) (subst (λ t. HasType (plain heap) t (field_of object at)) int (held.typed at field (field_of object at) its (slice_get-get_or object.fields at (Ref None) within)))
-      | inr past ↦ ap target_in (past_end object.fields at past)
+      | inr past ↦ ap target_in (get_or-eq_default object.fields (Ref None) past)
     ]
   where
     by : (v : Value) → HasType (plain heap) types.Int v → target_in v ≡ None
     by (Int n) h = refl
     by (Ref target) h = absurd h
-
-    past_end : (values : List Value) (i : ℕ) → length values ≤ i → get_or values i (Ref None) ≡ Ref None
-    past_end [] i l = refl
-    past_end (v ∷ vs) zero l = absurd (omega arith)
-    past_end (v ∷ vs) (suc i) l = past_end vs i (omega arith)
 
 -- ---- the fields before the first one that holds a reference
 
@@ -185,14 +176,9 @@ no_reference_before plan heap is name object there from found some at le less =
           let its : slice_get declared.0.fields at ≡ Some field = slice_get-get_or declared.0.fields at (record { name = []; ty = types.Int }) in_decl in
           let int : field.ty ≡ types.Int = first_before from (drop from declared.0.fields) found (ap (λ fs. first_reference from (drop from fs)) (sym fields) ∙ some) (at - from) field (drop_get from at declared.0.fields le ∙ its) (omega (arith, le, less)) in
           by (field_of object at) (subst (λ t. HasType (plain heap) t (field_of object at)) int (held.typed at field (field_of object at) its (slice_get-get_or object.fields at (Ref None) within)))
-      | inr past ↦ ap target_in (past_end object.fields at past)
+      | inr past ↦ ap target_in (get_or-eq_default object.fields (Ref None) past)
     ]
   where
     by : (v : Value) → HasType (plain heap) types.Int v → target_in v ≡ None
     by (Int n) h = refl
     by (Ref target) h = absurd h
-
-    past_end : (values : List Value) (i : ℕ) → length values ≤ i → get_or values i (Ref None) ≡ Ref None
-    past_end [] i l = refl
-    past_end (v ∷ vs) zero l = absurd (omega arith)
-    past_end (v ∷ vs) (suc i) l = past_end vs i (omega arith)

@@ -3,7 +3,7 @@ use Rattle.std.proofs.Common.{◌≡◌, ◌≢◌, ◌⊎◌, inl, inr, ℕ, ze
 use Rattle.std.specs.Prelude.{slice_set, nat_lt, ◌==◌, ◌&&◌, ◌||◌, if◌then◌else◌, is_some}
 use Rattle.std.specs.Option.{option_map}
 use Rattle.std.specs.FinMap as finite
-use Rattle.std.proofs.lemmas.Bool.{lt-ltb, ltb-true, eqb-true}
+use Rattle.std.proofs.lemmas.Bool.{lt-ltb, ltb-true, eqb-true, cases_Bool}
 use Rattle.dl_ir.specs.declared.modules.FieldDecl.{FieldDecl}
 use Rattle.dl_ir.specs.declared.modules.Ty.{Ty}
 use Rattle.dl_ir.specs.declared.modules.Ty.TheVariants as types
@@ -25,13 +25,16 @@ use Rattle.dl_core.specs.declared.dues.Due.TheVariants.{Reads, Writes, Takes, Le
 use Rattle.dl_core.specs.LocalSteps.{Stops, next, next_field, next_target, next_loose}
 use Rattle.dl_core.specs.Events.{act, take, with_mark}
 use Rattle.dl_core.specs.Sound.{HasBook}
-use Rattle.dl_core.proofs.Maps.{names, weight, get_here, get_there, put_at_same, total-put_at}
-use Rattle.dl_core.proofs.Names.{same_name, same_some, no_some, bools}
+use Rattle.dl_shape.proofs.Names.{names}
+use Rattle.dl_core.proofs.Maps.{weight, get_here, get_there, put_at_same, total-put_at}
+use Rattle.dl_core.proofs.Names.{same_name, same_some, no_some}
 use Rattle.dl_core.proofs.Plain.{plain_put, plain_refs}
 use Rattle.dl_core.proofs.Typing.{plain_there}
 use Rattle.dl_core.proofs.Counts.{set_less}
 use Rattle.dl_core.proofs.Prunes.{Prunes, prunes_more}
 use Rattle.dl_core.proofs.Lone.{Lone, Ends, local_on, event_on, by_book, IsToTake}
+use Rattle.dl_lemmas.proofs.Tests.{and_parts}
+use Rattle.std.proofs.Math.Bool.{or-true}
 
 -- ---- marks aside
 
@@ -199,7 +202,7 @@ module _ (l : Lone) (frame : Frame) (serial : Objects) where
         → Ends l heap (State book spares (name ∷ rest) (Some (Ref (Some target))) k false)
     target_on k field comes then_from rest book spares target heap is =
         let f = State book spares (name ∷ rest) (Some (Ref (Some target))) k false in
-        elim (bools (has_booked f target || false)) [
+        elim (cases_Bool (has_booked f target || false)) [
           | inl t ↦ write_on k field comes then_from rest book spares target false heap is t
           | inr n ↦ by_book l heap f (λ has.
               let b = booked_so heap f has is in
@@ -221,17 +224,13 @@ module _ (l : Lone) (frame : Frame) (serial : Objects) where
                   left = Some finds.object;
                   acts = ap (act l.plan l.caller f (Takes target)) finds.there ∙ ap (take l.plan l.caller target f finds.object) shut.1;
                   on = subst (λ h. Ends l h (State book spares (name ∷ rest) (Some (Ref (Some target))) k true)) (sym (ap (put_at heap target) (sym finds.there) ∙ put_at_same names heap target))
-                      (write_on k field comes then_from rest book spares target true heap is (or_true (has_booked f target)));
+                      (write_on k field comes then_from rest book spares target true heap is (or-true (has_booked f target)));
                 }
               ]))
         ]
       where
         differ : (finds : IsToTake heap target) → is.object.mark ≡ finds.object.mark → is.object.mark ≡ Held l.caller → ⊥
         differ finds same held = elim finds.mark [ inl free ↦ free_held (sym free ∙ sym same ∙ held) | inr shut ↦ sealed_held (sym shut.1 ∙ sym same ∙ held) ]
-
-        or_true : (b : Bool) → (b || true) ≡ true
-        or_true true = refl
-        or_true false = refl
 
     -- its field was read
     value_on : (k field : ℕ) → reference_from l.plan kind k ≡ Some field → FromField (field + 1) → (rest : List Name) (book : Book) (spares : ℕ) (value : Value) (heap : Heap) → IsBeingCleared heap
@@ -290,7 +289,7 @@ module _ (l : Lone) (frame : Frame) (serial : Objects) where
 
       give_up : (b : Booked) → finite.get book name ≡ Some b → (nat_lt 0 name.ticket && (b.fields == 0)) ≡ true → Ends l heap (State book spares (name ∷ rest) None 0 false)
       give_up b found t = by_book l heap (State book spares (name ∷ rest) None 0 false) (λ has.
-          let parts = both (nat_lt 0 name.ticket) (b.fields == 0) t in
+          let parts = and_parts (nat_lt 0 name.ticket) (b.fields == 0) t in
           let hidden : IsHidden name = ltb-true 0 name.ticket parts.0 in
           let says = has.booked name b found in
           let none : refs heap name ≡ 0 = sym says.fields ∙ eqb-true b.fields 0 parts.1 in
@@ -300,14 +299,10 @@ module _ (l : Lone) (frame : Frame) (serial : Objects) where
           (λ rest' book' spares' heap' same. again rest' book' spares' heap' (subst (Prunes serial) (sym same) (prunes_more pruned name loose)) (subst (λ p. finite.len p + 1 ≤ count) (sym same) (omega (arith, len_removed (plain heap) name (plain_object says.object) there, few))))
           (length (fields_of l.plan says.object.kind)) 0 (omega arith) rest book spares heap
           (record { object = says.object; there = says.there; held = says.held; of_kind = refl; alone = none; rest = refl }))
-        where
-          both : (a c : Bool) → (a && c) ≡ true → (a ≡ true) × (c ≡ true)
-          both true c e = (refl, e)
-          both false c e = cc
 
       by_found : (o : Option Booked) → finite.get book name ≡ o → ((book : Book) (spares : ℕ) (heap : Heap) → Prunes serial (plain heap) → finite.len (plain heap) ≤ count → FromList rest book spares heap) → Ends l heap (State book spares (name ∷ rest) None 0 false)
       by_found None e more = let_go (ap (next_loose l.plan (State book spares (name ∷ rest) None 0 false) name) e) more
-      by_found (Some b) e more = elim (bools (nat_lt 0 name.ticket && (b.fields == 0))) [
+      by_found (Some b) e more = elim (cases_Bool (nat_lt 0 name.ticket && (b.fields == 0))) [
         | inl t ↦ give_up b e t
         | inr n ↦ let_go (ap (next_loose l.plan (State book spares (name ∷ rest) None 0 false) name) e ∙ ap (λ c. if c then next_field (State book spares (name ∷ rest) None 0 false) name (reference_from l.plan b.kind 0) else Stops (LetsGo name)) n) more
       ]

@@ -15,6 +15,7 @@ use Rattle.dl_text.proofs.Numbers.{OneDigit, fold-grows}
 use Rattle.dl_heapfile.specs.Reading.{behind, field, fields, with_value, kind_named}
 use Rattle.dl_heapfile.proofs.LinesRead.{kind_read}
 use Rattle.dl_heapfile.proofs.ValuesRead.{behind_read, behind_written}
+use Rattle.std.proofs.Math.Seq.{take-append_seam}
 
 -- a digit that brings the number above the greatest
 pub too_large : (most : ℕ) (digits : List ℕ) (i n : ℕ) → OneDigit digits i n → most < 10 * n + (get_or digits i 0 - 48) → None ≡ (if nat_le (value digits) most then Some (value digits) else None)
@@ -24,10 +25,6 @@ too_large most digits i n one above =
     grind (arith, nat_tests, big)
 
 -- bytes that come next, by a comparison
-take_front : (word rest : List ℕ) → take (length word) (word ++ rest) ≡ word
-take_front [] rest = refl
-take_front (w ∷ word) rest = ap (λ (l : List ℕ). w ∷ l) (take_front word rest)
-
 pub behind_some : (word text : List ℕ) → bytes_eq (take (length word) text) word ≡ true → behind word text ≡ Some (drop (length word) text)
 behind_some word text e =
     let same : take (length word) text ≡ word = grind (arith, bytes_eq-Decides (take (length word) text) word, e) in
@@ -39,7 +36,7 @@ behind_none word text e = by (behind word text) refl
     by : (o : Option (List ℕ)) → behind word text ≡ o → o ≡ None
     by None h = refl
     by (Some rest) h =
-        let same : take (length word) text ≡ word = ap (take (length word)) (behind_read word text rest h) ∙ take_front word rest in
+        let same : take (length word) text ≡ word = ap (take (length word)) (behind_read word text rest h) ∙ take-append_seam word rest in
         absurd (let passes : bytes_eq (take (length word) text) word ≡ true = grind (arith, bytes_eq-Decides (take (length word) text) word, same) in let clash : true ≡ false = sym passes ∙ e in cc)
 
 -- the values held so far, before those to come
@@ -72,11 +69,6 @@ module _ (decls : List FieldDecl) (i : ℕ) (d : FieldDecl) (within : i < length
 pub all_fields : (decls : List FieldDecl) (held : List Value) (rest : List ℕ) (all : Option (List Value × List ℕ)) → decls ≡ [] → onto held (fields decls rest) ≡ all → all ≡ Some (held, rest)
 all_fields decls held rest all none same = sym same ∙ ap (λ (l : List FieldDecl). onto held (fields l rest)) none ∙ ap (λ (l : List Value). Some (l, rest)) (append-nil held)
 
--- what holds of all holds of the one at a place
-pub all_at : {X : Type 0} (P : X → Type 0) (xs : List X) (at : ℕ) (x : X) → All P xs → slice_get xs at ≡ Some x → P x
-all_at P [] at x all is = cc
-all_at P (y ∷ ys) zero x all is = let same : y ≡ x = cc in subst P same (All-head P y ys all)
-all_at P (y ∷ ys) (suc at) x all is = all_at P ys at x (All-tail P y ys all) is
 
 -- the kind that is found is one of them
 pub named_kind : (P : KindDecl → Type 0) (word : List ℕ) (kinds : List KindDecl) (found : ℕ × KindDecl) → All P kinds → kind_named 0 word kinds ≡ Some found → P found.1

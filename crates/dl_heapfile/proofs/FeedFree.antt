@@ -19,9 +19,10 @@ use Rattle.dl_text.specs.Bytes.{is_digit, is_word, AllAre}
 use Rattle.dl_text.specs.Text.{Ends}
 use Rattle.dl_heapfile.specs.Lines.{IsSmall, IsSmallName, MayHold, AllMayHold, HasForm, TellsOf, BeginsWith, is_within}
 use Rattle.dl_heapfile.specs.Names.{HasNames}
-use Rattle.dl_heapfile.proofs.NumbersRead.{decimal_digits, front_all, front_ends}
+use Rattle.dl_heapfile.proofs.NumbersRead.{decimal_digits, front_ends}
 use Rattle.dl_heapfile.proofs.ValuesRead.{fields_text}
 use Rattle.dl_heapfile.proofs.LinesRead.{AllNamed, all_named, line_is}
+use Rattle.dl_text.proofs.Pieces.{take_while-passes}
 
 joined : (test : ℕ → Bool) (a b : List ℕ) → AllAre test a → AllAre test b → AllAre test (a ++ b)
 joined test [] b all more = more
@@ -125,13 +126,13 @@ cut_line text line rest b more front back is =
     let behind : drop (prefix_len is_within text) text ≡ b ∷ more = sym back ∙ is in
     let stops : is_within b ≡ false = subst (Ends is_within) behind (front_ends is_within text) in
     let feed : b ≡ 10 = grind (arith, nat_tests, stops) in (
-      subst (AllAre is_within) (sym front) (front_all is_within text),
+      subst (AllAre is_within) (sym front) (take_while-passes is_within text),
       sym (take-append-drop (prefix_len is_within text) text) ∙ ap₂ (λ (a b : List ℕ). a ++ b) (sym front) (behind ∙ ap (λ (n : ℕ). n ∷ more) feed),
     )
 
 pub uncut : (text rest : List ℕ) → rest ≡ drop (prefix_len is_within text) text → rest ≡ [] → AllAre is_within text
 uncut text rest back is =
-    subst (AllAre is_within) (sym (append-nil (take (prefix_len is_within text) text)) ∙ ap (λ (l : List ℕ). take (prefix_len is_within text) text ++ l) (sym is ∙ back) ∙ take-append-drop (prefix_len is_within text) text) (front_all is_within text)
+    subst (AllAre is_within) (sym (append-nil (take (prefix_len is_within text) text)) ∙ ap (λ (l : List ℕ). take (prefix_len is_within text) text ++ l) (sym is ∙ back) ∙ take-append-drop (prefix_len is_within text) text) (take_while-passes is_within text)
 
 -- the line that is read, as the front of the text
 pub front_told : (source : Module) (text line rest : List ℕ) (e : Name × Obj) → AllAre is_within line × (text ≡ line ++ (10 ∷ rest)) → TellsOf source line e → BeginsWith source text e rest

@@ -6,7 +6,7 @@ use Rattle.std.proofs.lemmas.Bool.{cases_lt}
 use Rattle.std.proofs.lemmas.List.Elements.{All-from_recursion}
 use Rattle.std.specs.FinMap as finite
 use Rattle.std.specs.FinMap.{same_map}
-use Rattle.std.proofs.lemmas.List.{length-map, length-take-le}
+use Rattle.std.proofs.lemmas.List.{map_push, length-map, length-take-le}
 use Rattle.dl_ir.specs.declared.modules.FieldDecl.{FieldDecl}
 use Rattle.dl_ir.specs.declared.modules.KindDecl.{KindDecl}
 use Rattle.dl_ir.specs.declared.modules.Module.{Module}
@@ -21,22 +21,21 @@ use Rattle.dl_heapfile.specs.declared.fault.HeapFault.{HeapFault}
 use Rattle.dl_heapfile.specs.declared.fault.HeapFault.TheVariants.{NoPlaces}
 use Rattle.dl_heapfile.specs.Lines.{MayHold, AllMayHold, HasForm}
 use Rattle.dl_heapfile.specs.Faults.{heap_of, Every, FailsFirst, HasOneField, RefersWell, Builds}
-use Rattle.dl_heapfile.proofs.Cuts.{all_at}
-use Rattle.dl_heapfile.proofs.Rising.{Entries, same_some}
+use Rattle.dl_heapfile.proofs.Rising.{Entries}
+use Rattle.std.proofs.lemmas.Option.{same_Some}
+use Rattle.dl_lemmas.proofs.Places.{all_at}
+use Rattle.dl_lemmas.proofs.Maps.{same_put}
+use Rattle.dl_shape.proofs.Names.{names}
 
 -- ---- lists
 
 pub take_one : {X : Type 0} (xs : List X) (i : ℕ) (x : X) → slice_get xs i ≡ Some x → take (i + 1) xs ≡ take i xs ++ x ∷ []
 take_one [] i x is = cc
-take_one (y ∷ xs) zero x is = ap (λ z. z ∷ []) (same_some y x is)
+take_one (y ∷ xs) zero x is = ap (λ z. z ∷ []) (same_Some y x is)
 take_one {X} (y ∷ xs) (suc i) x is = ap (λ n. take n (y ∷ xs)) {x = suc i + 1} {y = suc (i + 1)} (omega arith) ∙ ap (λ (l : List X). y ∷ l) (take_one xs i x is)
 
-map_both : {X Y : Type 0} (f : X → Y) (ys : List X) (x : X) → map f (ys ++ x ∷ []) ≡ map f ys ++ f x ∷ []
-map_both f [] x = refl
-map_both {Y = Y} f (y ∷ ys) x = ap (λ (l : List Y). f y ∷ l) (map_both f ys x)
-
 pub map_one : {X Y : Type 0} (f : X → Y) (xs : List X) (i : ℕ) (x : X) → slice_get xs i ≡ Some x → map f (take (i + 1) xs) ≡ map f (take i xs) ++ f x ∷ []
-map_one f xs i x is = ap (map f) (take_one xs i x is) ∙ map_both f (take i xs) x
+map_one f xs i x is = ap (map f) (take_one xs i x is) ∙ map_push f (take i xs) x
 
 pub taken_short : {X Y : Type 0} (f : X → Y) (xs : List X) (i : ℕ) → i ≤ length xs → length (map f (take i xs)) ≡ i
 taken_short f xs i within = length-map (take i xs) f ∙ length-take-le i xs within
@@ -48,7 +47,7 @@ part_written i held = take i held ++ map nothing (drop i held)
 
 pub part_more : (held : List Value) (i : ℕ) (v : Value) → slice_get held i ≡ Some v → slice_set (part_written i held) i v ≡ part_written (i + 1) held
 part_more [] i v is = cc
-part_more (x ∷ held) zero v is = ap (λ (z : Value). z ∷ map nothing held) (sym (same_some x v is))
+part_more (x ∷ held) zero v is = ap (λ (z : Value). z ∷ map nothing held) (sym (same_Some x v is))
 part_more (x ∷ held) (suc i) v is = ap (λ (l : List Value). x ∷ l) (part_more held i v is) ∙ ap (λ n. part_written n (x ∷ held)) {x = suc (i + 1)} {y = suc i + 1} (omega arith)
 
 drop_whole : (held : List Value) → part_written (length held) held ≡ held
@@ -60,10 +59,7 @@ partly i object = record object { fields = part_written i object.fields }
 
 -- an object put where it is
 pub put_same : (h : Objects) (name : Name) (object : Obj) → finite.get h name ≡ Some (emptied object) → h ≡ finite.insert h name (partly 0 object)
-put_same h name object there = same_map names_total exact_names _ _ (λ q. elim (same_or_not q name) [
-  | inl same ↦ ap (finite.get h) same ∙ there ∙ sym (ap (finite.get (finite.insert h name (partly 0 object))) same ∙ got_put h name (partly 0 object))
-  | inr other ↦ sym (got_beside h name (partly 0 object) q other)
-])
+put_same h name object there = sym (same_put names h name (partly 0 object) there)
 
 put_over : (h : Objects) (name : Name) (v w : Obj) → finite.insert (finite.insert h name v) name w ≡ finite.insert h name w
 put_over h name v w = same_map names_total exact_names _ _ (λ q. elim (same_or_not q name) [
@@ -92,7 +88,7 @@ holds_long (d ∷ decls) (v ∷ held) all = ap suc (holds_long decls held all.1)
 pub holds_at : (decls : List FieldDecl) (held : List Value) (at : ℕ) (d : FieldDecl) (v : Value) → AllMayHold decls held → slice_get decls at ≡ Some d → slice_get held at ≡ Some v → MayHold d.ty v
 holds_at [] held at d v all decl is = cc
 holds_at (e ∷ decls) [] at d v all decl is = absurd all
-holds_at (e ∷ decls) (w ∷ held) zero d v all decl is = subst (λ (f : FieldDecl). MayHold f.ty v) (same_some e d decl) (subst (MayHold e.ty) (same_some w v is) all.0)
+holds_at (e ∷ decls) (w ∷ held) zero d v all decl is = subst (λ (f : FieldDecl). MayHold f.ty v) (same_Some e d decl) (subst (MayHold e.ty) (same_Some w v is) all.0)
 holds_at (e ∷ decls) (w ∷ held) (suc at) d v all decl is = holds_at decls held at d v all.1 decl is
 
 -- one field more refers well
@@ -103,14 +99,14 @@ next_typed heap decls held i d v decl_is held_is has before at field value below
   | inl earlier ↦ before at field value earlier decl is
   | inr late ↦
       let same : at ≡ i = omega (arith, below, late) in
-      let one : d ≡ field = same_some d field (sym decl_is ∙ ap (slice_get decls) (sym same) ∙ decl) in
-      let other : v ≡ value = same_some v value (sym held_is ∙ ap (slice_get held) (sym same) ∙ is) in
+      let one : d ≡ field = same_Some d field (sym decl_is ∙ ap (slice_get decls) (sym same) ∙ decl) in
+      let other : v ≡ value = same_Some v value (sym held_is ∙ ap (slice_get held) (sym same) ∙ is) in
       subst (λ (f : FieldDecl). HasType heap f.ty value) one (subst (HasType heap d.ty) other has)
 ]
 
 -- the fields of an object of a kind
 pub form_fields : (source : Module) (object : Obj) (declared : KindDecl) → HasForm source object → slice_get source.kinds object.kind ≡ Some declared → AllMayHold declared.fields object.fields
-form_fields source object declared form is = subst (λ (k : KindDecl). AllMayHold k.fields object.fields) (same_some form.declared declared (sym form.is_there ∙ is)) form.fields
+form_fields source object declared form is = subst (λ (k : KindDecl). AllMayHold k.fields object.fields) (same_Some form.declared declared (sym form.is_there ∙ is)) form.fields
 
 -- an object of the form of a kind has few fields
 pub few_held : (source : Module) (object : Obj) → HasStart source → HasForm source object → length object.fields ≤ 16

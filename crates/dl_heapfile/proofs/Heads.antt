@@ -11,8 +11,11 @@ use Rattle.dl_heapfile.specs.Form.{goes_on, first_word, Skips, IsDecimal, IsHead
 use Rattle.dl_heapfile.specs.Faults.{HasNoHeap}
 use Rattle.dl_heapfile.specs.Lines.{is_within}
 use Rattle.dl_heapfile.specs.Reading.{behind, is_plain, plain, number, head, head_kept, head_ended}
-use Rattle.dl_heapfile.proofs.NumbersRead.{then_some, map_some, front_taken, front_dropped, front_all, IsNumber, number_read, number_written}
+use Rattle.dl_heapfile.proofs.NumbersRead.{then_some, map_some, front_dropped, IsNumber, number_read, number_written}
 use Rattle.dl_heapfile.proofs.ValuesRead.{behind_read, behind_written}
+use Rattle.dl_text.proofs.Pieces.{take_while-run, take_while-passes}
+use Rattle.std.proofs.lemmas.List.Sums.{prefix_len-le-length}
+use Rattle.std.proofs.lemmas.List.{drop-append-le, take-append-le}
 
 -- ---- the first word
 
@@ -21,31 +24,13 @@ front_stops : (test : ℕ → Bool) (b : ℕ) (a more : List ℕ) → test b ≡
 front_stops test b [] more fails = ap (λ v. cond v (1 + prefix_len test more) 0) fails
 front_stops test b (x ∷ a) more fails = ap (λ n. cond (test x) (1 + n) 0) (front_stops test b a more fails)
 
-front_short : (test : ℕ → Bool) (a : List ℕ) → prefix_len test a ≤ length a
-front_short test [] = omega arith
-front_short test (x ∷ a) = by (test x) (front_short test a)
-  where
-    by : (v : Bool) → prefix_len test a ≤ length a → cond v (1 + prefix_len test a) 0 ≤ length (x ∷ a)
-    by true more = omega (arith, more)
-    by false more = omega arith
-
-drop_within : (n : ℕ) (a b : List ℕ) → n ≤ length a → drop n (a ++ b) ≡ drop n a ++ b
-drop_within zero a b low = refl
-drop_within (suc n) [] b low = absurd (omega (arith, low))
-drop_within (suc n) (x ∷ a) b low = drop_within n a b (omega (arith, low))
-
-take_within : (n : ℕ) (a b : List ℕ) → n ≤ length a → take n (a ++ b) ≡ take n a
-take_within zero a b low = refl
-take_within (suc n) [] b low = absurd (omega (arith, low))
-take_within (suc n) (x ∷ a) b low = ap (λ (l : List ℕ). x ∷ l) (take_within n a b (omega (arith, low)))
-
 taken_stops : (test : ℕ → Bool) (b : ℕ) (a more : List ℕ) → test b ≡ false → take_while test (a ++ b ∷ more) ≡ take_while test a
-taken_stops test b a more fails = ap (λ n. take n (a ++ b ∷ more)) (front_stops test b a more fails) ∙ take_within (prefix_len test a) a (b ∷ more) (front_short test a)
+taken_stops test b a more fails = ap (λ n. take n (a ++ b ∷ more)) (front_stops test b a more fails) ∙ take-append-le (prefix_len test a) a (b ∷ more) (prefix_len-le-length test a)
 
 -- the first word of a text is that of its first line
 pub word_of_line : (line more : List ℕ) → first_word (line ++ 10 ∷ more) ≡ first_word line
 word_of_line line more =
-    ap (take_while goes_on) (ap (λ n. drop n (line ++ 10 ∷ more)) (front_stops is_blank 10 line more refl) ∙ drop_within (prefix_len is_blank line) line (10 ∷ more) (front_short is_blank line))
+    ap (take_while goes_on) (ap (λ n. drop n (line ++ 10 ∷ more)) (front_stops is_blank 10 line more refl) ∙ drop-append-le (prefix_len is_blank line) line (10 ∷ more) (prefix_len-le-length is_blank line))
     ∙ taken_stops goes_on 10 (drop (prefix_len is_blank line) line) more refl
 
 -- ---- lines that are skipped
@@ -116,11 +101,11 @@ plain_read text found is = by (is_plain (take_while is_digit text)) refl is
     by false e h = cc
     by true e h =
         let same : (take_while is_digit text, drop (prefix_len is_digit text) text) ≡ found = cc in
-        subst (IsPlain text) same (record { text_is = sym (take-append-drop (prefix_len is_digit text) text); digits = decimal_of (take_while is_digit text) e (front_all is_digit text) })
+        subst (IsPlain text) same (record { text_is = sym (take-append-drop (prefix_len is_digit text) text); digits = decimal_of (take_while is_digit text) e (take_while-passes is_digit text) })
 
 plain_written : (digits rest : List ℕ) → IsDecimal digits → Ends is_digit rest → plain (digits ++ rest) ≡ Some (digits, rest)
 plain_written digits rest is ends =
-    ap₂ (λ (a b : List ℕ). if is_plain a then Some (a, b) else None) (front_taken is_digit digits rest is.all ends) (front_dropped is_digit digits rest is.all ends)
+    ap₂ (λ (a b : List ℕ). if is_plain a then Some (a, b) else None) (take_while-run is_digit digits rest is.all ends) (front_dropped is_digit digits rest is.all ends)
     ∙ ap (λ v. if v then Some (digits, rest) else None) (plain_of digits is)
 
 -- a heap line that is read

@@ -19,8 +19,9 @@ use Rattle.dl_text.specs.Text.{Ends}
 use Rattle.dl_heapfile.specs.Lines.{AllMayHold, HasForm, TellsOf}
 use Rattle.dl_heapfile.specs.Names.{HasNames}
 use Rattle.dl_heapfile.specs.Reading.{behind, name, fields, seal, seal_behind, kind_named, object_ended, object_of, object, entry_behind, entry}
-use Rattle.dl_heapfile.proofs.NumbersRead.{assoc4, then_some, map_some, front_taken, front_dropped}
+use Rattle.dl_heapfile.proofs.NumbersRead.{assoc4, then_some, map_some, front_dropped}
 use Rattle.dl_heapfile.proofs.ValuesRead.{behind_read, name_read, name_written, fields_text, fields_read, fields_end, fields_written}
+use Rattle.dl_text.proofs.Pieces.{take_while-run}
 
 -- ---- the mark of a sealed object
 
@@ -163,7 +164,7 @@ object_written source o names form =
     let shown = fields_text kind.fields o.fields in
     let rest = seal_text o.sealed ++ shown in
     let words : AllNamed kind.fields = all_named kind.fields (λ place f there. (names.fields o.kind place kind f form.is_there there).word) in
-    let taken = front_taken is_word kind.name rest name_is.word (mark_end o.sealed kind.fields o.fields) in
+    let taken = take_while-run is_word kind.name rest name_is.word (mark_end o.sealed kind.fields o.fields) in
     let dropped = front_dropped is_word kind.name rest name_is.word (mark_end o.sealed kind.fields o.fields) in
     let found = kind_written 0 kind.name source.kinds o.kind kind form.is_there refl (λ other k there same. names.apart other o.kind k kind there form.is_there same) in
     ap (object source.kinds) (append_assoc kind.name (seal_text o.sealed) shown)

@@ -14,8 +14,9 @@ use Rattle.dl_ir.specs.declared.objects.Obj.{Obj}
 use Rattle.dl_ir.specs.Heap.{name_cmp, root, IsRootOf, IsNodeKind, hidden_count}
 use Rattle.dl_heapfile.specs.Form.{MayFollow, AreListed, AreInPlace, root_count}
 use Rattle.dl_heapfile.specs.Faults.{heap_of}
-use Rattle.dl_heapfile.proofs.Cuts.{all_at}
-use Rattle.dl_heapfile.proofs.Rising.{Entries, Rise, below_root, front_get, sorted_rise, entries-heap_of}
+use Rattle.dl_heapfile.proofs.Rising.{Entries, below_root, entries-heap_of}
+use Rattle.dl_lemmas.proofs.Entries.{Rise, sorted_rise}
+use Rattle.dl_lemmas.proofs.Places.{all_at, front_get}
 
 -- the object is that of the root with this number
 pub record IsRootAt (source : Module) (at : ℕ) (e : Name × Obj) : Type 0 where
@@ -55,7 +56,7 @@ module _ (source : Module) (es : Entries) (listed : AreListed source es) where
       let long = front_length at e there in
       follows_hidden source (take at es) e (listed.each at e there) (omega (arith, long, high))
 
-  pub rise : Rise es
+  pub rise : Rise name_cmp es
   rise i j e f at_i at_j less = elim (cases_lt j (root_count source)) [
     | inl low ↦
         let first = root_at i e at_i (omega (arith, low, less)) in
@@ -65,7 +66,7 @@ module _ (source : Module) (es : Entries) (listed : AreListed source es) where
   ]
 
   pub sorted : T (is_sorted name_cmp es)
-  sorted = sorted_rise es rise
+  sorted = sorted_rise name_cmp es rise
 
 -- with so many roots before, the others are hidden
 count_behind : (n : ℕ) (es : Entries) → ((at : ℕ) (e : Name × Obj) → slice_get es at ≡ Some e → at < n → e.0.ticket ≡ 0) → ((at : ℕ) (e : Name × Obj) → slice_get es at ≡ Some e → n ≤ at → 1 ≤ e.0.ticket)

@@ -12,6 +12,8 @@ use Rattle.dl_text.specs.Bytes.{is_digit, next_value, value, AllAre}
 use Rattle.dl_text.specs.Text.{Ends}
 use Rattle.dl_heapfile.specs.Lines.{IsSmall}
 use Rattle.dl_heapfile.specs.Reading.{is_plain, number_cut, number, negative, positive, integer}
+use Rattle.dl_text.proofs.Pieces.{prefix_len-run, take_while-run, take_while-passes}
+use Rattle.std.proofs.Math.Seq.{drop-append_seam}
 
 -- one more, as a constructor
 one_more : (n : ℕ) → 1 + n ≡ suc n
@@ -19,32 +21,8 @@ one_more n = omega arith
 
 -- ---- the front of a text
 
-front_is : (test : ℕ → Bool) (ds rest : List ℕ) → AllAre test ds → Ends test rest → prefix_len test (ds ++ rest) ≡ length ds
-front_is test [] [] all ends = refl
-front_is test [] (b ∷ rest) all ends = rw ends refl
-front_is test (d ∷ ds) rest all ends = rw (all.0, one_more (prefix_len test (ds ++ rest))) (ap suc (front_is test ds rest all.1 ends))
-
-take_all : (ds rest : List ℕ) → take (length ds) (ds ++ rest) ≡ ds
-take_all [] rest = refl
-take_all (d ∷ ds) rest = ap (λ (l : List ℕ). d ∷ l) (take_all ds rest)
-
-drop_all : (ds rest : List ℕ) → drop (length ds) (ds ++ rest) ≡ rest
-drop_all [] rest = refl
-drop_all (d ∷ ds) rest = drop_all ds rest
-
-pub front_taken : (test : ℕ → Bool) (ds rest : List ℕ) → AllAre test ds → Ends test rest → take_while test (ds ++ rest) ≡ ds
-front_taken test ds rest all ends = ap (λ n. take n (ds ++ rest)) (front_is test ds rest all ends) ∙ take_all ds rest
-
 pub front_dropped : (test : ℕ → Bool) (ds rest : List ℕ) → AllAre test ds → Ends test rest → drop (prefix_len test (ds ++ rest)) (ds ++ rest) ≡ rest
-front_dropped test ds rest all ends = ap (λ n. drop n (ds ++ rest)) (front_is test ds rest all ends) ∙ drop_all ds rest
-
-pub front_all : (test : ℕ → Bool) (text : List ℕ) → AllAre test (take_while test text)
-front_all test [] = tt
-front_all test (b ∷ text) = by (test b) refl (front_all test text)
-  where
-    by : (v : Bool) → test b ≡ v → AllAre test (take_while test text) → AllAre test (take (cond v (1 + prefix_len test text) 0) (b ∷ text))
-    by true is more = rw (one_more (prefix_len test text)) (is, more)
-    by false is more = tt
+front_dropped test ds rest all ends = ap (λ n. drop n (ds ++ rest)) (prefix_len-run test ds rest all ends) ∙ drop-append_seam ds rest
 
 pub front_ends : (test : ℕ → Bool) (text : List ℕ) → Ends test (drop (prefix_len test text) text)
 front_ends test [] = tt
@@ -99,7 +77,7 @@ number_read most text found small is =
     let rest = drop (prefix_len is_digit text) text in
     let cut = cut_is most digits rest found is in
     let lead = plain_lead digits cut.0 in
-    let written : decimal (value digits) ≡ digits = decimal-digits_value numerals digits (front_all is_digit text) lead.0 lead.1 (omega (arith, cut.1)) in
+    let written : decimal (value digits) ≡ digits = decimal-digits_value numerals digits (take_while-passes is_digit text) lead.0 lead.1 (omega (arith, cut.1)) in
     subst (IsNumber most text) (sym cut.2) (record {
       text_is = sym (take-append-drop (prefix_len is_digit text) text) ∙ ap (λ (l : List ℕ). l ++ rest) (sym written);
       low = cut.1;
@@ -109,7 +87,7 @@ number_read most text found small is =
 pub number_written : (most n : ℕ) (rest : List ℕ) → most < 2 ^ 64 → n ≤ most → Ends is_digit rest → number most (decimal n ++ rest) ≡ Some (n, rest)
 number_written most n rest small low ends =
     let all = digits_decimal numerals n (omega arith) in
-    let taken : take_while is_digit (decimal n ++ rest) ≡ decimal n = front_taken is_digit (decimal n) rest all ends in
+    let taken : take_while is_digit (decimal n ++ rest) ≡ decimal n = take_while-run is_digit (decimal n) rest all ends in
     let dropped : drop (prefix_len is_digit (decimal n ++ rest)) (decimal n ++ rest) ≡ rest = front_dropped is_digit (decimal n) rest all ends in
     let says : value (decimal n) ≡ n = digits_value-decimal numerals n (omega arith) in
     let fits : nat_le n most ≡ true = grind (arith, nat_tests, low) in

@@ -19,12 +19,14 @@ use Rattle.dl_heapfile.specs.Reading.{entry}
 use Rattle.dl_heapfile.specs.Form.{first_word, Skips, BeginsAt, IsHead, Tells}
 use Rattle.dl_heapfile.specs.Faults.{HasNoHeap, IsCounted, Every, FailsFirst, Builds, Reads}
 use Rattle.dl_heapfile.specs.Laws.{IsReadOnce, IsSpeltOnce}
-use Rattle.dl_heapfile.proofs.NumbersRead.{front_taken, front_dropped, decimal_digits, decimal_plain, plain_lead}
+use Rattle.dl_heapfile.proofs.NumbersRead.{front_dropped, decimal_digits, decimal_plain, plain_lead}
 use Rattle.dl_heapfile.proofs.LinesRead.{entry_written}
 use Rattle.dl_heapfile.proofs.FeedFree.{line_within, same_front, fed}
 use Rattle.dl_heapfile.proofs.Heads.{word_of_line}
-use Rattle.dl_heapfile.proofs.Rising.{Entries, same_some}
+use Rattle.dl_heapfile.proofs.Rising.{Entries}
 use Rattle.dl_heapfile.proofs.Reread.{what_is_spelt_is_read}
+use Rattle.std.proofs.lemmas.Option.{same_Some}
+use Rattle.dl_text.proofs.Pieces.{take_while-run}
 
 -- ---- where the heap part begins
 
@@ -96,7 +98,7 @@ not_passed bytes text line at first second =
 
 digits_once : (one two rest more : List ℕ) (b : ℕ) → AllAre is_digit one → AllAre is_digit two → is_digit b ≡ false → one ++ (b ∷ rest) ≡ two ++ (b ∷ more) → (one ≡ two) × (rest ≡ more)
 digits_once one two rest more b first second ends same = (
-  sym (front_taken is_digit one (b ∷ rest) first ends) ∙ ap (take_while is_digit) same ∙ front_taken is_digit two (b ∷ more) second ends,
+  sym (take_while-run is_digit one (b ∷ rest) first ends) ∙ ap (take_while is_digit) same ∙ take_while-run is_digit two (b ∷ more) second ends,
   ap (drop 1) (sym (front_dropped is_digit one (b ∷ rest) first ends) ∙ ap (λ (l : List ℕ). drop (prefix_len is_digit l) l) same ∙ front_dropped is_digit two (b ∷ more) second ends),
 )
 
@@ -136,7 +138,7 @@ next_once source text e f rest more names first second =
     let one = cut_at source text e rest names first in
     let two = cut_at source text f more names second in
     let both = same_front one.line two.line rest more one.within two.within (sym one.cut ∙ two.cut) in
-    (same_some e f (sym (entry_written source one.line e names one.tells) ∙ ap (entry source) both.0 ∙ entry_written source two.line f names two.tells), both.1)
+    (same_Some e f (sym (entry_written source one.line e names one.tells) ∙ ap (entry source) both.0 ∙ entry_written source two.line f names two.tells), both.1)
 
 -- a line of an object begins with a digit, and the last line does not
 next_not_last : (source : Module) (text : List ℕ) (e : Name × Obj) (rest more : List ℕ) → BeginsWith source text e rest → text ≡ codes "end\n" ++ more → ⊥

@@ -11,7 +11,7 @@ use Rattle.std.specs.FinMap.{entries_sorted}
 use Rattle.std.proofs.lemmas.Bool.{cases_lt}
 use Rattle.std.proofs.lemmas.Cmp.{tied_itself}
 use Rattle.std.proofs.lemmas.List.{length-take-le}
-use Rattle.std.proofs.lemmas.Option.{slice_get_within, slice_get-get_or}
+use Rattle.std.proofs.lemmas.Option.{slice_get_within, slice_get-get_or, same_Some}
 use Rattle.dl_ir.specs.declared.modules.FieldDecl.{FieldDecl}
 use Rattle.dl_ir.specs.declared.modules.KindDecl.{KindDecl}
 use Rattle.dl_ir.specs.declared.modules.Module.{Module}
@@ -31,10 +31,12 @@ use Rattle.dl_heapfile.specs.Form.{Skips, MayFollow, AreInPlace, IsDecimal, root
 use Rattle.dl_heapfile.specs.Faults.{Builds, Reads}
 use Rattle.dl_heapfile.specs.Laws.{HoldsSmall, WhatIsSpeltIsRead}
 use Rattle.dl_heapfile.proofs.NumbersRead.{decimal_plain, plain_lead, decimal_digits}
-use Rattle.dl_heapfile.proofs.Rising.{Entries, Rise, one_at, same_some, front_get, rise_sorted, get_there, there_got, heap_of-entries}
+use Rattle.dl_heapfile.proofs.Rising.{Entries, get_there, there_got, heap_of-entries}
 use Rattle.dl_heapfile.proofs.Listed.{in_all}
 use Rattle.dl_heapfile.proofs.Starting.{length-roots_from, within_roots, root_named}
 use Rattle.dl_heapfile.proofs.Spelled.{lines_of, tell}
+use Rattle.dl_lemmas.proofs.Entries.{Rise, rise_sorted}
+use Rattle.dl_lemmas.proofs.Places.{front_get, one_at}
 
 -- ---- the roots come first
 
@@ -65,7 +67,7 @@ not_itself n less = let clash : Less ≡ Equal = sym less ∙ tied_itself names_
 
 -- the entries hold the roots from one number to another, and no other name below the second has ticket 0
 record HoldsRoots (first end : ℕ) (es : Entries) : Type 0 where
-  rise : Rise es
+  rise : Rise name_cmp es
   low : (at : ℕ) (e : Name × Obj) → slice_get es at ≡ Some e → e.0.ticket ≡ 0 → first ≤ e.0.index
   there : (i : ℕ) → first ≤ i → i < end → (at : ℕ) × (e : Name × Obj) × (slice_get es at ≡ Some e) × (e.0 ≡ root i)
 
@@ -74,7 +76,7 @@ first_root : (first end : ℕ) (x : Name × Obj) (es : Entries) → first < end 
 first_root first end x es less roots = by (roots.there first (omega arith) less)
   where
     by : (at : ℕ) × (e : Name × Obj) × (slice_get (x ∷ es) at ≡ Some e) × (e.0 ≡ root first) → x.0 ≡ root first
-    by (zero, e, there, name) = ap (λ (o : Name × Obj). o.0) (same_some x e there) ∙ name
+    by (zero, e, there, name) = ap (λ (o : Name × Obj). o.0) (same_Some x e there) ∙ name
     by (suc at, e, there, name) =
         let below = less_root x.0 first (subst (λ n. name_cmp x.0 n ≡ Less) name (roots.rise 0 (suc at) x e refl there (omega arith))) in
         absurd (omega (arith, below.1, roots.low 0 x refl below.0))
@@ -91,7 +93,7 @@ other_roots first end x es less roots =
   where
     by : x.0 ≡ root first → (i : ℕ) → first + 1 ≤ i → (at : ℕ) × (e : Name × Obj) × (slice_get (x ∷ es) at ≡ Some e) × (e.0 ≡ root i) → (at : ℕ) × (e : Name × Obj) × (slice_get es at ≡ Some e) × (e.0 ≡ root i)
     by name i least (zero, e, there, is) =
-        let same : root first ≡ root i = sym name ∙ ap (λ (o : Name × Obj). o.0) (same_some x e there) ∙ is in
+        let same : root first ≡ root i = sym name ∙ ap (λ (o : Name × Obj). o.0) (same_Some x e there) ∙ is in
         let index : first ≡ i = ap (λ (n : Name). n.index) same in
         absurd (omega (arith, index, least))
     by name i least (suc at, e, there, is) = (at, e, there, is)
@@ -116,7 +118,7 @@ fold_above greatest (e ∷ es) = omega (arith, fold_above (max greatest e.0.tick
 fold_each : (greatest : ℕ) (es : Entries) (at : ℕ) (e : Name × Obj) → slice_get es at ≡ Some e → e.0.ticket ≤ fold (λ best (f : Name × Obj). max best f.0.ticket) greatest es
 fold_each greatest [] at e there = cc
 fold_each greatest (x ∷ es) zero e there =
-    subst (λ (y : Name × Obj). y.0.ticket ≤ fold (λ best (f : Name × Obj). max best f.0.ticket) greatest (x ∷ es)) (same_some x e there) (omega (arith, fold_above (max greatest x.0.ticket) es))
+    subst (λ (y : Name × Obj). y.0.ticket ≤ fold (λ best (f : Name × Obj). max best f.0.ticket) greatest (x ∷ es)) (same_Some x e there) (omega (arith, fold_above (max greatest x.0.ticket) es))
 fold_each greatest (x ∷ es) (suc at) e there = fold_each (max greatest x.0.ticket) es at e there
 
 -- ---- fields
@@ -137,7 +139,7 @@ all_held (d ∷ decls) (v ∷ held) long each = (each 0 d v refl refl, all_held 
 
 -- ---- the heap
 
-all_less : (es : Entries) (at : ℕ) (e : Name × Obj) → Rise es → slice_get es at ≡ Some e → All (λ (earlier : Name × Obj). name_cmp earlier.0 e.0 ≡ Less) (take at es)
+all_less : (es : Entries) (at : ℕ) (e : Name × Obj) → Rise name_cmp es → slice_get es at ≡ Some e → All (λ (earlier : Name × Obj). name_cmp earlier.0 e.0 ≡ Less) (take at es)
 all_less es at e rise there k d within =
     let inside = slice_get_within es at e there in
     let long = length-take-le at es (omega (arith, inside)) in
@@ -177,8 +179,8 @@ module _ (source : Module) (heap : Objects) (start : HasStart source) (can : IsS
   abbrev es : Entries
   es = finite.entries heap
 
-  rise : Rise es
-  rise = rise_sorted es (entries_sorted heap)
+  rise : Rise name_cmp es
+  rise = rise_sorted name_cmp es (entries_sorted heap)
 
   place : (name : Name) (object : Obj) → finite.get heap name ≡ Some object → (at : ℕ) × (slice_get es at ≡ Some (name, object))
   place name object is = there_got es name object (subst (λ h. finite.get h name ≡ Some object) (sym (heap_of-entries heap)) is)
@@ -200,7 +202,7 @@ module _ (source : Module) (heap : Objects) (start : HasStart source) (can : IsS
   root_name : (at : ℕ) (e : Name × Obj) → slice_get es at ≡ Some e → at < root_count source → e.0 ≡ root at
   root_name at e there less =
       let stands = root_stands 0 (root_count source) es at (omega (arith, less)) roots in
-      ap (λ (o : Name × Obj). o.0) (same_some e stands.0 (sym there ∙ stands.1)) ∙ stands.2 ∙ ap root {x = 0 + at} {y = at} (omega arith)
+      ap (λ (o : Name × Obj). o.0) (same_Some e stands.0 (sym there ∙ stands.1)) ∙ stands.2 ∙ ap root {x = 0 + at} {y = at} (omega arith)
 
   many : root_count source ≤ length es
   many = elim (cases_lt (length es) (root_count source)) [
@@ -233,7 +235,7 @@ module _ (source : Module) (heap : Objects) (start : HasStart source) (can : IsS
             let name = root_name at e there low in
             let is = can.of_module.exposed e.0 e.1 (got_at heap at e there) (ap (λ (n : Name). n.ticket) name) in
             let object = can.of_module.roots e.1.kind e.0 is in
-            let same : object.0 ≡ e.1 = same_some object.0 e.1 (sym object.1 ∙ got_at heap at e there) in
+            let same : object.0 ≡ e.1 = same_Some object.0 e.1 (sym object.1 ∙ got_at heap at e there) in
             MayFollow.next_root (omega (arith, long, low)) (name ∙ ap root (sym long)) is (ap (λ (o : Obj). o.sealed) (sym same) ∙ object.3)
         | inr high ↦
             let hides = hidden_name at e there high in

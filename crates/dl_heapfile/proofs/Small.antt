@@ -9,7 +9,8 @@ use Rattle.dl_ir.specs.declared.objects.Obj.{Obj}
 use Rattle.dl_ir.specs.Heap.{Objects}
 use Rattle.dl_heapfile.specs.Lines.{IsSmall}
 use Rattle.dl_heapfile.specs.Laws.{HoldsSmall}
-use Rattle.dl_heapfile.proofs.Rising.{Entries, same_some, there_got, heap_of-entries}
+use Rattle.dl_heapfile.proofs.Rising.{Entries, there_got, heap_of-entries}
+use Rattle.std.proofs.lemmas.Option.{same_Some}
 
 abbrev pub FieldsSmall : List Value → Type 0
 FieldsSmall fields = (at : ℕ) (number : ℤ) → slice_get fields at ≡ Some (Int number) → IsSmall number
@@ -20,7 +21,7 @@ SmallIn (e ∷ es) = FieldsSmall e.1.fields × SmallIn es
 
 small_at : (es : Entries) (at : ℕ) (e : Name × Obj) → SmallIn es → slice_get es at ≡ Some e → FieldsSmall e.1.fields
 small_at [] at e all there = cc
-small_at (x ∷ es) zero e all there = subst (λ (y : Name × Obj). FieldsSmall y.1.fields) (same_some x e there) all.0
+small_at (x ∷ es) zero e all there = subst (λ (y : Name × Obj). FieldsSmall y.1.fields) (same_Some x e there) all.0
 small_at (x ∷ es) (suc at) e all there = small_at es at e all.1 there
 
 pub small_got : (heap : Objects) → SmallIn (finite.entries heap) → HoldsSmall heap

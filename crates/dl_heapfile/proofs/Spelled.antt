@@ -4,7 +4,7 @@ use Rattle.std.specs.Prelude.{Result, Ok, codes, decimal}
 use Rattle.std.specs.List.{slice_get, flat_map}
 use Rattle.std.proofs.lemmas.Bool.{cases_lt}
 use Rattle.std.proofs.lemmas.List.{append-nil, take-append-le}
-use Rattle.std.proofs.lemmas.Option.{slice_get_within}
+use Rattle.std.proofs.lemmas.Option.{slice_get_within, same_Some}
 use Rattle.std.proofs.Math.Seq.{take-append_seam}
 use Rattle.dl_ir.specs.declared.modules.Module.{Module}
 use Rattle.dl_ir.specs.declared.names.Name.{Name}
@@ -16,9 +16,10 @@ use Rattle.dl_heapfile.specs.Lines.{IsSmallName, HasForm}
 use Rattle.dl_heapfile.specs.Form.{MayFollow, AreListed, AreInPlace, Tells}
 use Rattle.dl_heapfile.specs.Faults.{heap_of, Every, RefersWell, HasOneField, Builds, Reads}
 use Rattle.dl_heapfile.specs.Laws.{IsWellRead, WhatIsReadIsSpelt}
-use Rattle.dl_heapfile.proofs.Rising.{Entries, same_some, entries-heap_of}
+use Rattle.dl_heapfile.proofs.Rising.{Entries, entries-heap_of}
 use Rattle.dl_heapfile.proofs.Listed.{sorted}
 use Rattle.dl_heapfile.proofs.Starting.{startable}
+use Rattle.dl_lemmas.proofs.Places.{at_seam, within_first}
 
 -- the lines of these objects, and the last line
 abbrev pub lines_of : Module → Entries → List ℕ
@@ -26,17 +27,8 @@ lines_of source es = flat_map (object_line source) es ++ codes "end\n"
 
 -- ---- one more object
 
-get_front : {X : Type 0} (xs ys : List X) (i : ℕ) → i < length xs → slice_get (xs ++ ys) i ≡ slice_get xs i
-get_front [] ys i less = absurd (omega (arith, less))
-get_front (x ∷ xs) ys zero less = refl
-get_front (x ∷ xs) ys (suc i) less = get_front xs ys i (omega (arith, less))
-
-pub get_seam : {X : Type 0} (xs ys : List X) (y : X) → slice_get (xs ++ y ∷ ys) (length xs) ≡ Some y
-get_seam [] ys y = refl
-get_seam (x ∷ xs) ys y = get_seam xs ys y
-
 get_past : {X : Type 0} (xs : List X) (y z : X) (i : ℕ) → slice_get (xs ++ y ∷ []) i ≡ Some z → length xs ≤ i → (i ≡ length xs) × (y ≡ z)
-get_past [] y z zero is least = (refl, same_some y z is)
+get_past [] y z zero is least = (refl, same_Some y z is)
 get_past [] y z (suc i) is least = cc
 get_past (x ∷ xs) y z zero is least = absurd (omega (arith, least))
 get_past (x ∷ xs) y z (suc i) is least = let rest = get_past xs y z i is (omega (arith, least)) in (omega (arith, rest.0), rest.1)
@@ -46,7 +38,7 @@ module _ (source : Module) (before : Entries) (entry : Name × Obj) (listed : Ar
   each_more : (P : ℕ → Name × Obj → Type 0) → ((at : ℕ) (e : Name × Obj) → slice_get before at ≡ Some e → P at e) → P (length before) entry
       → (at : ℕ) (e : Name × Obj) → slice_get (before ++ entry ∷ []) at ≡ Some e → P at e
   each_more P each last at e there = elim (cases_lt at (length before)) [
-    | inl low ↦ each at e (sym (get_front before (entry ∷ []) at low) ∙ there)
+    | inl low ↦ each at e (sym (within_first before (entry ∷ []) at low) ∙ there)
     | inr high ↦ let here = get_past before entry e at there high in subst (λ n. P n e) (sym here.0) (subst (P (length before)) here.1 last)
   ]
 
@@ -93,7 +85,7 @@ tell source es before [] line placed cut =
     let same : es ≡ before = cut ∙ append-nil before in
     subst (λ (l : Entries). Tells source l line (codes "end\n") (Ok es)) same (Tells.ended (record { all_roots = placed.all_roots; text_is = refl }))
 tell source es before (e ∷ rest) line placed cut =
-    let there : slice_get es (length before) ≡ Some e = ap (λ l. slice_get l (length before)) cut ∙ get_seam before rest e in
+    let there : slice_get es (length before) ≡ Some e = ap (λ l. slice_get l (length before)) cut ∙ at_seam before rest e in
     let follows : MayFollow source before e = subst (λ l. MayFollow source l e) (ap (take (length before)) cut ∙ take-append_seam before (e ∷ rest)) (placed.listed.each (length before) e there) in
     Tells.object e (record {
       follows = follows;

@@ -12,8 +12,10 @@ use Rattle.dl_ir.specs.Heap.{Objects, name_cmp, root, roots_from, roots_of, blan
 use Rattle.dl_shape.specs.Startable.{IsStartable}
 use Rattle.dl_heapfile.specs.Form.{AreInPlace, root_count}
 use Rattle.dl_heapfile.specs.Faults.{heap_of, Every, RefersWell, HasOneField}
-use Rattle.dl_heapfile.proofs.Rising.{Entries, one_at, same_some, get_there, there_got, entries-heap_of}
+use Rattle.dl_heapfile.proofs.Rising.{Entries, get_there, there_got, entries-heap_of}
 use Rattle.dl_heapfile.proofs.Listed.{IsRootAt, IsHiddenBehind, root_at, hidden_at, sorted}
+use Rattle.std.proofs.lemmas.Option.{same_Some}
+use Rattle.dl_lemmas.proofs.Places.{one_at}
 
 -- ---- the roots of kinds stand in one row
 
@@ -25,7 +27,7 @@ length-roots_from first (suc count) o = ap suc (length-roots_from (first + 1) co
 row_at : (next at : ℕ) (kinds : List KindDecl) (i : ℕ) (d : KindDecl) → StandInRow next kinds → slice_get kinds i ≡ Some d → d.is_root ≡ true → (next ≤ d.first) × (d.first + d.count ≤ next + length (roots_of at kinds))
 row_at next at [] i d row is is_root = cc
 row_at next at (e ∷ kinds) zero d row is is_root =
-    let same : e ≡ d = same_some e d is in
+    let same : e ≡ d = same_Some e d is in
     let first : e.first ≡ next = row.0.of_root (subst (λ (k : KindDecl). k.is_root ≡ true) (sym same) is_root) in
     let here = roots_from e.first e.count (blank_object at e) in
     subst (λ (k : KindDecl). (next ≤ k.first) × (k.first + k.count ≤ next + length (roots_of at (e ∷ kinds)))) same
@@ -40,7 +42,7 @@ row_apart : (next : ℕ) (kinds : List KindDecl) (i j : ℕ) (d e : KindDecl) �
 row_apart next [] i j d e row at_i at_j less root_d root_e = cc
 row_apart next (k ∷ kinds) i zero d e row at_i at_j less root_d root_e = absurd (omega (arith, less))
 row_apart next (k ∷ kinds) zero (suc j) d e row at_i at_j less root_d root_e =
-    let same : k ≡ d = same_some k d at_i in
+    let same : k ≡ d = same_Some k d at_i in
     let first : k.first ≡ next = row.0.of_root (subst (λ (f : KindDecl). f.is_root ≡ true) (sym same) root_d) in
     let later = row_at (next + k.count) 0 kinds j e row.1 at_j root_e in
     subst (λ (f : KindDecl). f.first + f.count ≤ e.first) same (omega (arith, first, later.0))

@@ -1,4 +1,3 @@
-mod Lists
 mod Pairs
 mod Moved
 mod Places

@@ -8,7 +8,9 @@ use Rattle.std.proofs.lemmas.Bool.Decides.{nat_tests}
 use Rattle.dl_ir.specs.declared.answers.Entry.{Entry}
 use Rattle.dl_history.specs.Histories.{caller_at, index_at, places_of, ArePlacesOf}
 use Rattle.dl_history.specs.Orders.{IsOrder}
-use Rattle.dl_history.proofs.Lists.{filter_moves, filter_part, first_rises, second_rises}
+use Rattle.dl_lemmas.proofs.Counts.{filter_moves, filter_part}
+use Rattle.dl_lemmas.proofs.Sorted.{first_rises, second_rises}
+use Rattle.std.proofs.lemmas.Bool.{leb-true, leb-false}
 
 below_differs : (a b : ℕ) → nat_lt a b ≡ true → (a == b) ≡ false
 below_differs a b h = grind (arith, nat_tests)
@@ -25,12 +27,6 @@ between_is a b low high = grind (arith, nat_tests)
 not_both : (a b : ℕ) → nat_lt a b ≡ true → nat_le a b ≡ false → ⊥
 not_both a b low high = grind (arith, nat_tests)
 
-le_of : (a b : ℕ) → nat_le a b ≡ true → a ≤ b
-le_of a b h = grind (arith, nat_tests)
-
-above_of : (a b : ℕ) → nat_le a b ≡ false → b < a
-above_of a b h = grind (arith, nat_tests)
-
 module _ (entries : List Entry) (order : List ℕ) (is_order : IsOrder entries order) (caller : ℕ) where
   pub parted_below : IsPartitionedBy (λ place. nat_lt (caller_at entries place) caller) order
   parted_below = IsPartitionedBy-ltb (caller_at entries) order caller (first_rises (caller_at entries) (index_at entries) order is_order.sorted)
@@ -43,9 +39,9 @@ module _ (entries : List Entry) (order : List ℕ) (is_order : IsOrder entries o
       (at_to : IsPartitionPoint (λ place. nat_le (caller_at entries place) caller ≡ true) (λ place. nat_le (caller_at entries place) caller ≡ false) order to) where
     pub in_turn : from ≤ to
     in_turn = elim (nat_le from to) as (λ b. nat_le from to ≡ b → from ≤ to) [
-      | true ↦ λ t. le_of from to t
+      | true ↦ λ t. leb-true from to t
       | false ↦ λ t.
-          let below : to < from = above_of from to t in
+          let below : to < from = leb-false from to t in
           absurd (not_both (caller_at entries (get_or order to 0)) caller (at_from.0 to 0 (omega arith) below) (at_to.1 to 0 (omega arith) (omega arith)))
     ] refl
 

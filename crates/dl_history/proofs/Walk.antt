@@ -21,7 +21,7 @@ use Rattle.dl_history.specs.Report.{is_entry_of, is_refusal_of, told_text, outco
 use Rattle.dl_text.specs.Lists.{each_from}
 use Rattle.dl_text.proofs.Loops.{each_numbered}
 use Rattle.std.proofs.lemmas.Option.{slice_get-get_or}
-use Rattle.dl_history.proofs.Lists.{count-cons, count-moves, count-filter}
+use Rattle.dl_lemmas.proofs.Counts.{count-cons, count-moves, count-filter}
 
 eq_of : (a b : ℕ) → a ≡ b → (a == b) ≡ true
 eq_of a b h = grind (arith, nat_tests)

@@ -5,16 +5,7 @@ use Rattle.std.proofs.lemmas.List.{length-append}
 use Rattle.dl_instr.specs.declared.steps.Step.{Step}
 use Rattle.dl_instr.specs.declared.steps.Step.TheVariants.{Drop}
 use Rattle.dl_live.specs.Dropped.{with_added, start_of, drops_of}
-
-pub get_front : {A : Type 0} (xs ys : List A) (k : ℕ) → k < length xs → slice_get (xs ++ ys) k ≡ slice_get xs k
-get_front [] ys k h = absurd (omega arith)
-get_front (x ∷ rest) ys zero h = refl
-get_front (x ∷ rest) ys (suc k) h = get_front rest ys k (omega (arith, h))
-
-pub get_behind : {A : Type 0} (xs ys : List A) (z k : ℕ) → k ≡ length xs + z → slice_get (xs ++ ys) k ≡ slice_get ys z
-get_behind [] ys z k is = ap (slice_get ys) (omega (arith, is))
-get_behind (x ∷ rest) ys z zero is = absurd (omega (arith, is))
-get_behind (x ∷ rest) ys z (suc k) is = get_behind rest ys z k (omega (arith, is))
+use Rattle.dl_lemmas.proofs.Places.{in_second, within_first}
 
 module _ (added : ℕ → List Step) where
   -- where the step itself stands
@@ -50,11 +41,11 @@ module _ (added : ℕ → List Step) where
       let same : n ≡ j = omega (arith, at) in
       let here : y ≡ k = let s = ap (start_of added) same in omega (arith, is, s) in
       let few = ap (λ m. length (added m)) same in
-      get_front (added n) (x ∷ with_added added (n + 1) rest) y (omega (arith, here, less, few)) ∙ ap (λ m. slice_get (added m) y) same ∙ ap (slice_get (added j)) here
+      within_first (added n) (x ∷ with_added added (n + 1) rest) y (omega (arith, here, less, few)) ∙ ap (λ m. slice_get (added m) y) same ∙ ap (slice_get (added j)) here
   drop_there n (x ∷ rest) (suc i) j k y h at less is =
       let up = start_up (n + 1) i j (omega (arith, at)) in
       let z = y - (length (added n) + 1) in
-      get_behind (added n) (x ∷ with_added added (n + 1) rest) (suc z) y (omega (arith, up, next_start n, is))
+      in_second (added n) (x ∷ with_added added (n + 1) rest) (suc z) y (omega (arith, up, next_start n, is))
       ∙ drop_there (n + 1) rest i j k z (omega (arith, h)) (omega (arith, at)) less (omega (arith, up, next_start n, is))
 
   pub step_there : (n : ℕ) (steps : List Step) (i j y : ℕ) (s : Step) → slice_get steps i ≡ Some s → n + i ≡ j → y + start_of added n ≡ place_of j
@@ -63,11 +54,11 @@ module _ (added : ℕ → List Step) where
   step_there n (x ∷ rest) zero j y s there at is =
       let same : n ≡ j = omega (arith, at) in
       let here : y ≡ length (added n) + 0 = let a = ap (start_of added) same in let b = ap (λ m. length (added m)) same in omega (arith, is, a, b) in
-      get_behind (added n) (x ∷ with_added added (n + 1) rest) 0 y here ∙ there
+      in_second (added n) (x ∷ with_added added (n + 1) rest) 0 y here ∙ there
   step_there n (x ∷ rest) (suc i) j y s there at is =
       let up = start_up (n + 1) i j (omega (arith, at)) in
       let z = y - (length (added n) + 1) in
-      get_behind (added n) (x ∷ with_added added (n + 1) rest) (suc z) y (omega (arith, up, next_start n, is))
+      in_second (added n) (x ∷ with_added added (n + 1) rest) (suc z) y (omega (arith, up, next_start n, is))
       ∙ step_there (n + 1) rest i j z s there (omega (arith, at)) (omega (arith, up, next_start n, is))
 
   -- each place below a start stands behind one before it
@@ -88,10 +79,10 @@ module _ (added : ℕ → List Step) where
 pub picked_drop : (picks : ℕ → Bool) (n k : ℕ) (s : Step) → slice_get (drops_of picks n) k ≡ Some s → (p : ℕ) × (s ≡ Drop p) × (picks p ≡ true)
 picked_drop picks zero k s there = absurd cc
 picked_drop picks (suc n) k s there = elim (cases_lt k (length (drops_of picks n))) [
-  | inl less ↦ picked_drop picks n k s (sym (get_front (drops_of picks n) (if picks n then Drop n ∷ [] else []) k less) ∙ there)
+  | inl less ↦ picked_drop picks n k s (sym (within_first (drops_of picks n) (if picks n then Drop n ∷ [] else []) k less) ∙ there)
   | inr past ↦
       let z = k - length (drops_of picks n) in
-      one_drop (picks n) n z s refl (sym (get_behind (drops_of picks n) (if picks n then Drop n ∷ [] else []) z k (omega (arith, past))) ∙ there)
+      one_drop (picks n) n z s refl (sym (in_second (drops_of picks n) (if picks n then Drop n ∷ [] else []) z k (omega (arith, past))) ∙ there)
 ]
   where
     one_drop : (b : Bool) (p z : ℕ) (s : Step) → picks p ≡ b → slice_get (if b then Drop p ∷ [] else []) z ≡ Some s → (q : ℕ) × (s ≡ Drop q) × (picks q ≡ true)

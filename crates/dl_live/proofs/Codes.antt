@@ -11,10 +11,11 @@ use Rattle.dl_instr.specs.declared.steps.Step.TheVariants.{Read, Want, Set, Drop
 use Rattle.dl_instr.specs.Code.{op_code}
 use Rattle.dl_instr.specs.Drops.{IsReadFrom, IsAddedDrop, IsWithDrops, GoesOn, front, moved, reads, sets, is_use}
 use Rattle.dl_instr.proofs.Moved.{moved_twice}
-use Rattle.dl_instr.proofs.Rising.{some_at}
+use Rattle.dl_lemmas.proofs.Places.{one_at}
 use Rattle.dl_live.specs.Dropped.{IsDropped, IsDroppedBefore, start_of, spread, drops_of, is_open}
 use Rattle.dl_live.specs.DroppedLaws.{DroppedIsCode}
 use Rattle.dl_live.proofs.Blocks.{place_of, next_start, place_up, length_is, drop_there, step_there, parted, below, picked_drop}
+use Rattle.std.proofs.lemmas.Bool.{not-true}
 
 -- a moved step reads, sets and uses what the step does
 pub moved_reads : (f : ℕ → ℕ) (p : ℕ) (s : Step) → reads p (moved f s) ≡ reads p s
@@ -132,7 +133,7 @@ module _ (picks : ℕ → ℕ → Bool) (n : ℕ) (steps : List Step) where
             inl (record { local = drop.0; is = drop.1; picked = drop.2; before = less })
         | inr past ↦
             let few = b.few in
-            let one = some_at steps i h in
+            let one = one_at steps i h in
             let mapped = slice_get-map (moved (start_of added)) steps i ∙ ap (option_map (moved (start_of added))) one.1 in
             let is = step_there added 0 (map (moved (start_of added)) steps) i i y (moved (start_of added) one.0) mapped (omega arith) (omega (arith, at, few, past)) in
             inr (record { step = one.0; there = one.1; is = cc; last = omega (arith, few, past) })
@@ -188,12 +189,8 @@ module _ (op : OpDecl) (plain steps : List Step) (picks : ℕ → ℕ → Bool) 
         ];
       }
     where
-      not_true : (b : Bool) → not b ≡ true → b ≡ false
-      not_true true is = absurd cc
-      not_true false is = refl
-
       open_use : (t : Step) → is_open (Some t) ≡ true → is_use t ≡ false
-      open_use t is = not_true (is_use t) is
+      open_use t is = not-true (is_use t) is
 
   -- so is a drop that the steps had
   old_drop : (i y : ℕ) → y ≡ place_of (added picks n steps) i → IsAddedDrop op steps i → IsAddedDrop op (made picks n steps) y
@@ -230,7 +227,7 @@ module _ (op : OpDecl) (plain steps : List Step) (picks : ℕ → ℕ → Bool) 
     added = λ y h.
         let p = parted (added picks n steps) (length steps) y (omega (arith, h, made_length picks n steps)) in
         let b : Block picks n steps p.0 p.2.0 y = record { at = p.2.1; few = p.2.2 } in
-        let there = some_at (made picks n steps) y h in
+        let there = one_at (made picks n steps) y h in
         elim (found picks n steps p.0 p.2.0 y there.0 there.1 b) [
           | inl drop ↦ inr (new_drop p.0 p.2.0 y there.0 there.1 b drop)
           | inr kept ↦
@@ -254,6 +251,6 @@ dropped_is_code source code made is dropped = record {
   ops = λ i op others is_op there.
       let within = slice_get_within made.ops i others there in
       let one = dropped.one_each in
-      let steps = some_at code.ops i (omega (arith, within, one)) in
+      let steps = one_at code.ops i (omega (arith, within, one)) in
       one_op op (op_code op) steps.0 others (is.ops i op steps.0 is_op steps.1) (dropped.ops i op steps.0 others is_op steps.1 there);
 }

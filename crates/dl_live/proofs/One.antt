@@ -7,14 +7,10 @@ use Rattle.dl_ir.specs.declared.modules.Module.{Module}
 use Rattle.dl_ir.specs.declared.modules.OpDecl.{OpDecl}
 use Rattle.dl_instr.specs.declared.code.Code.{Code}
 use Rattle.dl_instr.specs.declared.steps.Step.{Step}
-use Rattle.dl_instr.proofs.Rising.{some_at}
+use Rattle.dl_lemmas.proofs.Places.{one_at}
 use Rattle.dl_live.specs.Dropped.{IsDropped, drops_of, spread}
 use Rattle.dl_live.specs.DroppedLaws.{DroppedIsOne}
-
-same_truth : (a b : Bool) → (a ≡ true → b ≡ true) → (b ≡ true → a ≡ true) → a ≡ b
-same_truth true b to from = sym (to refl)
-same_truth false true to from = from refl
-same_truth false false to from = refl
+use Rattle.dl_lemmas.proofs.Tests.{same_truth}
 
 one_op : (op : OpDecl) (steps made other : List Step) → IsDropped op steps made → IsDropped op steps other → made ≡ other
 one_op op steps made other a b =
@@ -35,9 +31,9 @@ dropped_is_one source code made other is a b =
     let long = a.one_each in
     let other_long = b.one_each in
     let code_long = is.one_each in
-    let op = some_at source.ops k (omega (arith, h, long, code_long)) in
-    let steps = some_at code.ops k (omega (arith, h, long)) in
-    let one = some_at made.ops k h in
-    let two = some_at other.ops k (omega (arith, h, long, other_long)) in
+    let op = one_at source.ops k (omega (arith, h, long, code_long)) in
+    let steps = one_at code.ops k (omega (arith, h, long)) in
+    let one = one_at made.ops k h in
+    let two = one_at other.ops k (omega (arith, h, long, other_long)) in
     let same = one_op op.0 steps.0 one.0 two.0 (a.ops k op.0 steps.0 one.0 op.1 steps.1 one.1) (b.ops k op.0 steps.0 two.0 op.1 steps.1 two.1) in
     get_or_from_slice_get made.ops k one.0 d one.1 ∙ same ∙ sym (get_or_from_slice_get other.ops k two.0 d two.1)))

@@ -8,15 +8,7 @@ use Rattle.dl_instr.specs.declared.steps.Step.{Step}
 use Rattle.dl_instr.specs.Drops.{is_reference}
 use Rattle.dl_live.specs.Dropped.{IsDroppedBefore, IsDropped, drops_of, spread}
 use Rattle.dl_live.specs.Marks.{AreDropped, IsTable, is_marked, is_picked, marks_or_none, drops_at}
-
-pub get_front : {A : Type 0} (xs : List A) (x : A) (k : ℕ) → k < length xs → slice_get (xs ++ x ∷ []) k ≡ slice_get xs k
-get_front [] x k h = absurd (omega arith)
-get_front (y ∷ rest) x zero h = refl
-get_front (y ∷ rest) x (suc k) h = get_front rest x k (omega (arith, h))
-
-pub get_last : {A : Type 0} (xs : List A) (x : A) → slice_get (xs ++ x ∷ []) (length xs) ≡ Some x
-get_last [] x = refl
-get_last (y ∷ rest) x = get_last rest x
+use Rattle.dl_lemmas.proofs.Places.{at_seam, within_first}
 
 -- one more row
 pub rows_more : (op : OpDecl) (steps : List Step) (table : List (List Bool)) (row : List Bool) (local : ℕ) → length table ≡ local
@@ -24,13 +16,13 @@ pub rows_more : (op : OpDecl) (steps : List Step) (table : List (List Bool)) (ro
     → (at k : ℕ) → k < local + 1 → (is_picked (table ++ row ∷ []) at k ≡ true) ↔ IsDroppedBefore op steps at k
 rows_more op steps table row local long before here at k h = elim (cases_lt k local) [
   | inl less ↦
-      let same : is_picked (table ++ row ∷ []) at k ≡ is_picked table at k = ap (λ o. is_marked (marks_or_none o) at) (get_front table row k (omega (arith, less, long))) in
+      let same : is_picked (table ++ row ∷ []) at k ≡ is_picked table at k = ap (λ o. is_marked (marks_or_none o) at) (within_first table (row ∷ []) k (omega (arith, less, long))) in
       subst (λ b. (b ≡ true) ↔ IsDroppedBefore op steps at k) (sym same) (before at k less)
   | inr behind ↦
       let one : length table ≡ k = omega (arith, behind, h, long) in
       let other : local ≡ k = omega (arith, behind, h) in
       let same : is_picked (table ++ row ∷ []) at k ≡ is_marked row at =
-      ap (λ n. is_picked (table ++ row ∷ []) at n) (sym one) ∙ ap (λ o. is_marked (marks_or_none o) at) (get_last table row) in
+      ap (λ n. is_picked (table ++ row ∷ []) at n) (sym one) ∙ ap (λ o. is_marked (marks_or_none o) at) (at_seam table [] row) in
       subst (λ b. (b ≡ true) ↔ IsDroppedBefore op steps at k) (sym same) (subst (λ n. (is_marked row at ≡ true) ↔ IsDroppedBefore op steps at n) other (here at))
 ]
 

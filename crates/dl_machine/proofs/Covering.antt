@@ -20,6 +20,7 @@ use Rattle.dl_core.specs.Closing.{all_of, begun_on, history_left, AreDone, EndsO
 use Rattle.dl_core.proofs.Names.{same_some}
 use Rattle.dl_order.specs.Ends.{RunsClose}
 use Rattle.dl_machine.specs.Files.{call_in, HasServed, RunsFiles, calls_on}
+use Rattle.std.proofs.lemmas.Bool.{leb-true, leb-false}
 
 -- putting in order changes no count
 module _ {X : Type 0} (key : X → ℕ) (p : X → Bool) where
@@ -83,12 +84,6 @@ append_pairs R (x ∷ xs) ys hx hy across =
 abbrev key : Entry → ℕ
 key entry = entry.ticket
 
-le_of : (a b : ℕ) → nat_le a b ≡ true → a ≤ b
-le_of a b h = grind (arith, nat_tests)
-
-above_of : (a b : ℕ) → nat_le a b ≡ false → b < a
-above_of a b h = grind (arith, nat_tests)
-
 first_stands : (x y : Entry) → x.ticket ≤ y.ticket → Fits x y → Stands x y
 first_stands x y le fits = (le, λ same. elim (fits same) [ inl is ↦ is.0 | inr is ↦ (let later = is.1 in absurd (omega arith)) ])
 
@@ -99,11 +94,11 @@ put_stands : (x : Entry) (xs : List Entry) → All (Fits x) xs → Pairwise Stan
 put_stands x [] fits stands = (All-nil (Stands x), tt)
 put_stands x (y ∷ rest) fits stands = elim (nat_le (key x) (key y)) as (λ b. nat_le (key x) (key y) ≡ b → Pairwise Stands (if b then x ∷ y ∷ rest else y ∷ put_by key x rest)) [
   | true ↦ λ le.
-      let under : x.ticket ≤ y.ticket = le_of _ _ le in
+      let under : x.ticket ≤ y.ticket = leb-true _ _ le in
       let behind : All (Stands x) rest = λ k d within. first_stands x (get_or rest k d) (let up = (stands.0 k d within).0 in omega arith) (All-tail (Fits x) y rest fits k d within) in
       (All-cons (Stands x) y rest (first_stands x y under (All-head (Fits x) y rest fits)) behind, stands)
   | false ↦ λ above.
-      let over : y.ticket < x.ticket = above_of _ _ above in (
+      let over : y.ticket < x.ticket = leb-false _ _ above in (
         All-permutation (Stands y) _ _ (put_moves key x rest) (All-cons (Stands y) x rest (last_stands x y over (All-head (Fits x) y rest fits)) stands.0),
         put_stands x rest (All-tail (Fits x) y rest fits) stands.1,
       )

@@ -10,6 +10,7 @@ use Rattle.dl_core.specs.Passes.{PassView, fresh_pass}
 use Rattle.dl_core.specs.Closing.{AreFresh, AreIdle}
 use Rattle.dl_machine.specs.Files.{IsReadyFor, HasServed, AreReady, HaveServed, callers_on}
 use Rattle.dl_machine.proofs.Serving.{serves_none}
+use Rattle.dl_lemmas.proofs.Places.{one_at}
 
 module _ {P : Type 0} (plan : Plan) (is_of : P → Type 0) (view : P → PassView) where
   pub ready_first : (files : List (List Call)) (passes : List P) (file : List Call) (pass : P) → 0 < length passes → AreReady plan is_of view files passes
@@ -72,11 +73,6 @@ module _ {P : Type 0} (view : P → PassView) where
   caller_at (x ∷ xs) (y ∷ ys) zero p q same p_there q_there = cc (same, p_there, q_there)
   caller_at (x ∷ xs) (y ∷ ys) (suc at) p q same p_there q_there = let t : callers_on view xs ≡ callers_on view ys = cc same in caller_at xs ys at p q t p_there q_there
 
-pub there_at : {X : Type 0} (xs : List X) (at : ℕ) → at < length xs → (x : X) × (slice_get xs at ≡ Some x)
-there_at [] at within = absurd (omega arith)
-there_at (x ∷ xs) zero within = (x, refl)
-there_at (x ∷ xs) (suc at) within = there_at xs at (omega arith)
-
 module _ {P : Type 0} (plan : Plan) (is_of : P → Type 0) (view : P → PassView) (old new : List P) (fresh : AreFresh plan is_of view old) (served : HaveServed is_of view new)
     (callers : callers_on view new ≡ callers_on view old) (same : length new ≡ length old) where
   pub served_at : (at : ℕ) (pass : P) → slice_get new at ≡ Some pass → is_of pass × HasServed (view pass)
@@ -85,7 +81,7 @@ module _ {P : Type 0} (plan : Plan) (is_of : P → Type 0) (view : P → PassVie
   pub number_at : (at : ℕ) (pass : P) → slice_get new at ≡ Some pass → (view pass).caller ≡ at + 1
   number_at at pass there =
       let within : at < length new = slice_get_within new at pass there in
-      let before = there_at old at (omega arith) in
+      let before = one_at old at (omega arith) in
       caller_at view new old at pass before.0 callers there before.1 ∙ ap (λ (v : PassView). v.caller) (fresh.each at before.0 before.1).1
 
   pub idle_from : AreIdle plan is_of view new

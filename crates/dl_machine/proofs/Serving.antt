@@ -15,10 +15,7 @@ use Rattle.dl_machine.specs.declared.replies.Reply.{Reply}
 use Rattle.dl_machine.specs.declared.replies.Reply.TheVariants.{Answered, NoRoom}
 use Rattle.dl_machine.specs.Files.{call_in, Serves, HasServed}
 use Rattle.dl_machine.specs.Replies.{Replies, HasRun}
-
--- one element more
-count-push : {X : Type 0} (p : X → Bool) (xs : List X) (x : X) → count_by p (xs ++ x ∷ []) ≡ count_by p xs + cond (p x) 1 0
-count-push p xs x = sum_by-append (λ y. cond (p y) 1 0) xs (x ∷ []) ∙ ap (λ n. count_by p xs + n) (sum_by-cons (λ y. cond (p y) 1 0) x [] ∙ omega arith)
+use Rattle.dl_lemmas.proofs.Counts.{count-push}
 
 no_test : (a b : ℕ) → (a ≡ b → ⊥) → cond {A = ℕ} (a == b) 1 0 ≡ 0
 no_test a b apart = ap (λ (t : Bool). cond {A = ℕ} t 1 0) (ne_eqb a b apart)

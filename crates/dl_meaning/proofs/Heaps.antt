@@ -19,7 +19,7 @@ use Rattle.dl_ir.specs.declared.objects.Obj.{Obj}
 use Rattle.dl_ir.specs.Heap.{Objects, name_cmp, blank, blank_fields, blank_object, HasObject, HasType, HasFields, IsHeapOf, IsNodeKind, IsRootOf}
 use Rattle.dl_ir.proofs.NameOrder.{names_total, exact_names}
 use Rattle.dl_meaning.specs.Fitting.{HoldsType}
-use Rattle.dl_meaning.proofs.Places.{set_place}
+use Rattle.dl_lemmas.proofs.Places.{set_place}
 
 -- what was put in is there
 pub inserted : (h : Objects) (k : Name) (v : Obj) → finite.get (finite.insert h k v) k ≡ Some v

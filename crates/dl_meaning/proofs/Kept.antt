@@ -17,7 +17,7 @@ use Rattle.dl_ir.specs.Relation.{RefersTo, HasField, IsOpen, IsSealed}
 use Rattle.dl_meaning.specs.Fitting.{Fits, HoldsType}
 use Rattle.dl_ir.specs.Typed.{HasFieldOf, IsLocalOf}
 use Rattle.dl_meaning.proofs.Heaps.{local_stays, changed, stays_written, written, stays_made, made, looked, inserted}
-use Rattle.dl_meaning.proofs.Places.{same_place, set_place}
+use Rattle.dl_lemmas.proofs.Places.{same_place, set_place}
 
 -- what is of a reference's type is a reference
 record IsReference (h : Objects) (kind : ℕ) (value : Value) : Type 0 where

@@ -21,7 +21,7 @@ use Rattle.dl_meaning.specs.FirstStates.{HasTicketsBelow}
 use Rattle.dl_meaning.specs.Operations.{context_of, begun, OperationsHaveOneOutcome, CallsGiveTheOutcome, CallsLeaveHeaps, AreFilesOf, RisesFrom, ReplaysLeaveHeaps, LegalReplaysLeaveHeaps}
 pub use Rattle.dl_meaning.proofs.First.{begun_fits}
 use Rattle.dl_meaning.proofs.One.{one}
-use Rattle.dl_meaning.proofs.Places.{all_at}
+use Rattle.dl_lemmas.proofs.Places.{all_at}
 use Rattle.dl_meaning.proofs.Settled.{heap_settled, settled_below}
 use Rattle.dl_meaning.proofs.Sound.{sound_block}
 

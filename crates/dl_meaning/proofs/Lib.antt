@@ -3,7 +3,6 @@ mod Heaps
 pub mod Kept
 pub mod Left
 mod One
-pub mod Places
 mod Settled
 pub mod Sound
 mod Total

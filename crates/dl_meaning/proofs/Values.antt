@@ -22,7 +22,7 @@ use Rattle.dl_ir.specs.Typed.{IsTypedExpr, IsTypedCond, IsLocalOf}
 use Rattle.dl_meaning.specs.Values as by_cases
 use Rattle.dl_meaning.specs.Values.{HasValue, SideRefersTo, HasTruth, TypedHasOneValue, TypedHasOneTruth}
 use Rattle.dl_meaning.proofs.Kept.{Refers, reference_at}
-use Rattle.dl_meaning.proofs.Places.{same_place}
+use Rattle.dl_lemmas.proofs.Places.{same_place}
 
 -- the value of an expression, by its form
 level : (locals : List Value) (e : Expr) (l : Expr-F Expr) → out-Expr e ≡ l → value_of e locals ≡ value_step (map-Expr Expr (List Value → Number) value_of l) locals

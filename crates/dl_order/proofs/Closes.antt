@@ -24,16 +24,7 @@ use Rattle.dl_core.proofs.Names.{same_some}
 use Rattle.dl_order.specs.Ends.{IsRunOver, RunsClose, history_in, all_refusals}
 use Rattle.dl_core.specs.Machines.{AreAllIdle}
 use Rattle.dl_order.proofs.Ends.{runs_end}
-
-found : {X : Type 0} (xs : List X) (at : ℕ) → at < length xs → (x : X) × (slice_get xs at ≡ Some x)
-found [] at lt = absurd (omega arith)
-found (x ∷ xs) zero lt = (x, refl)
-found (x ∷ xs) (suc at) lt = found xs at (omega arith)
-
-inside : {X : Type 0} (xs : List X) (at : ℕ) (x : X) → slice_get xs at ≡ Some x → at < length xs
-inside [] at x e = absurd (cc)
-inside (y ∷ xs) zero x e = omega arith
-inside (y ∷ xs) (suc at) x e = let below = inside xs at x e in omega (arith, below)
+use Rattle.dl_lemmas.proofs.Places.{in_map, one_at}
 
 -- what passes have, in order, is what callers have
 pieces : {Y : Type 0} (f : PassView → List Y) (g : ℕ → List Y) (first : ℕ) (views : List PassView) → ((at : ℕ) (view : PassView) → slice_get views at ≡ Some view → f view ≡ g (first + at))
@@ -42,12 +33,6 @@ pieces f g first [] same = refl
 pieces f g first (view ∷ views) same =
     ap₂ (λ xs ys. xs ++ ys) (let here : first + 0 ≡ first = omega arith in same 0 view refl ∙ ap g here)
     (pieces f g (first + 1) views (λ at other there. let later : first + suc at ≡ first + 1 + at = omega arith in same (suc at) other there ∙ ap g later))
-
--- what stands in the image of a list is the image of what stands there
-in_map : {X Y : Type 0} (f : X → Y) (xs : List X) (at : ℕ) (y : Y) → slice_get (map f xs) at ≡ Some y → (x : X) × (slice_get xs at ≡ Some x) × (f x ≡ y)
-in_map f [] at y there = absurd (cc)
-in_map f (x ∷ xs) zero y there = (x, refl, same_some there)
-in_map f (x ∷ xs) (suc at) y there = in_map f xs at y there
 
 module _ (plan : Plan) (views : List PassView) (closed : Closed) (is : IsPlan plan) (done : AreDone views) (on : EndsOn plan views closed) where
   abbrev calls : List (List Call)
@@ -64,7 +49,7 @@ module _ (plan : Plan) (views : List PassView) (closed : Closed) (is : IsPlan pl
   resting (suc at) = elim (cases_lt at (length views)) [
     | inr past ↦ sound.nobody (suc at) (λ caller. omega (arith, past, many, caller.to_last))
     | inl within ↦
-        let view = found views at within in
+        let view = one_at views at within in
         let number = (done at view.0 view.1).1 in
         let here : view.0.caller ≡ suc at = omega (arith, number) in
         ap (λ (c : ℕ). (frame_of on.core.world c).stage) (sym here) ∙ ap (λ (f : Frame). f.stage) (on.frames at view.0 view.1) ∙ (done at view.0 view.1).0.stage

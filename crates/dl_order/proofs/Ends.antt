@@ -56,6 +56,7 @@ use Rattle.dl_order.proofs.Serial.{IsReplayOf}
 use Rattle.dl_order.proofs.Unsealed.{calls_fit}
 use Rattle.dl_order.proofs.Versions.{IsAlone, all_alone, alone_versions}
 use Rattle.dl_order.proofs.Worlds.{stands_of, idle_rests}
+use Rattle.dl_lemmas.proofs.Places.{either_default}
 
 -- ---- entries without their versions
 
@@ -171,11 +172,6 @@ found_at : {X : Type 0} (xs : List X) (i : ℕ) (d : X) → i < length xs → sl
 found_at [] i d lt = absurd (omega arith)
 found_at (x ∷ xs) zero d lt = refl
 found_at (x ∷ xs) (suc i) d lt = found_at xs i d (omega arith)
-
-either_default : {X : Type 0} (xs : List X) (i : ℕ) (c d : X) → i < length xs → get_or xs i c ≡ get_or xs i d
-either_default [] i c d lt = absurd (omega arith)
-either_default (x ∷ xs) zero c d lt = refl
-either_default (x ∷ xs) (suc i) c d lt = either_default xs i c d (omega arith)
 
 and_false : (b : Bool) → (b && false) ≡ false
 and_false true = refl

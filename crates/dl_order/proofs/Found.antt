@@ -33,8 +33,10 @@ use Rattle.dl_core.specs.Laws.{IsKept}
 use Rattle.dl_core.proofs.Dominates.{events_dominate}
 use Rattle.dl_core.proofs.Events.{events_may, made_null, Works, works_running, works_loose, local_held, booked_held, loose_held, cleared, cleared_hand, hand_before}
 use Rattle.dl_core.proofs.LawfulAlways.{lawful_always}
-use Rattle.dl_core.proofs.Maps.{AreEntries, entries_are, names}
-use Rattle.dl_core.proofs.Names.{same_some, no_some, no_bool}
+use Rattle.dl_lemmas.proofs.Entries.{AreEntries, entries_are}
+use Rattle.dl_shape.proofs.Names.{names}
+use Rattle.dl_lemmas.proofs.Tests.{not_both}
+use Rattle.dl_core.proofs.Names.{same_some, no_some}
 use Rattle.dl_core.proofs.Plain.{get_plain}
 use Rattle.dl_core.proofs.Rows.{target_held, target_value, field_refers}
 use Rattle.dl_core.proofs.Typing.{field_names}
@@ -209,7 +211,7 @@ module _ (plan : Plan) (core : Core) (calls : Calls) (is : IsPlan plan) (kept : 
     -- ---- what a caller takes it does not hold
 
     unheld : (name : Name) → has_booked frame name ≡ false → ¬ (IsHeld heap caller name)
-    unheld name none_booked held = let booked = (kept.sound.each caller).book.all name held in no_bool (ap is_some booked.1) none_booked
+    unheld name none_booked held = let booked = (kept.sound.each caller).book.all name held in not_both (ap is_some booked.1) none_booked
 
     others : (name : Name) → target_of_take (due plan frame) ≡ Some name → ¬ (IsHeld heap caller name)
     others name next_one held = by (due plan frame) (why.why plan frame) (events_dominate plan core calls caller is kept.lawful kept.sound) next_one

@@ -21,6 +21,8 @@ use Rattle.dl_order.specs.Serial.{finished_entries as told_by, history_of}
 use Rattle.dl_core.specs.Sound.{numbers_from}
 use Rattle.dl_core.proofs.Names.{same_number}
 use Rattle.dl_core.proofs.Elements.{Each, each_map, each_rising, rising_more}
+use Rattle.dl_lemmas.proofs.Places.{in_first}
+use Rattle.std.proofs.lemmas.List.{map_push}
 
 -- ---- more calls
 
@@ -28,15 +30,10 @@ use Rattle.dl_core.proofs.Elements.{Each, each_map, each_rising, rising_more}
 abbrev pub StandsIn : List (List Call) → List (List Call) → Type 0
 StandsIn files more = (caller index : ℕ) (call : Call) → call_at files caller index ≡ Some call → call_at more caller index ≡ Some call
 
-still_there : {X : Type 0} (xs ys : List X) (i : ℕ) (x : X) → slice_get xs i ≡ Some x → slice_get (xs ++ ys) i ≡ Some x
-still_there [] ys i x e = absurd (cc)
-still_there (y ∷ xs) ys zero x e = e
-still_there (y ∷ xs) ys (suc i) x e = still_there xs ys i x e
-
 later_there : (files : List (List Call)) (place k i : ℕ) (new call : Call) → option_and_then (λ (calls : List Call). slice_get calls i) (slice_get files k) ≡ Some call
     → option_and_then (λ (calls : List Call). slice_get calls i) (slice_get (set files place (get_or files place [] ++ new ∷ [])) k) ≡ Some call
 later_there [] place k i new call e = e
-later_there (f ∷ files) zero zero i new call e = still_there f (new ∷ []) i call e
+later_there (f ∷ files) zero zero i new call e = in_first f (new ∷ []) i call e
 later_there (f ∷ files) zero (suc k) i new call e = e
 later_there (f ∷ files) (suc place) zero i new call e = e
 later_there (f ∷ files) (suc place) (suc k) i new call e = later_there files place k i new call e
@@ -117,10 +114,6 @@ history_stays world after long same =
     ap (in_rising (λ (entry : Entry). entry.ticket))
     (ap (λ n. flat_map (told_by after) (numbers_from 1 n)) long
     ∙ same_pieces (told_by after) (told_by world) (numbers_from 1 (length world.frames)) (λ caller. ap (map (told caller)) (same caller)))
-
-map_push : {X Y : Type 0} (f : X → Y) (xs : List X) (x : X) → map f (xs ++ x ∷ []) ≡ map f xs ++ f x ∷ []
-map_push f [] x = refl
-map_push f (y ∷ xs) x = ap (λ ys. f y ∷ ys) (map_push f xs x)
 
 -- a list of pieces in which one piece has got one element more
 record HasMore {Y : Type 0} (was is : List Y) (new : Y) : Type 0 where

@@ -45,7 +45,9 @@ use Rattle.dl_core.specs.Reached.{IsReached, starts, begins, steps}
 use Rattle.dl_core.specs.Reach.{WaitsFor, ticket_in}
 use Rattle.dl_core.specs.Laws.{HasJustEntered}
 use Rattle.dl_core.proofs.Kept.{ready_same}
-use Rattle.dl_core.proofs.Maps.{names, same_key, get_here}
+use Rattle.dl_shape.proofs.Names.{names}
+use Rattle.dl_lemmas.proofs.Maps.{same_key}
+use Rattle.dl_core.proofs.Maps.{get_here}
 use Rattle.dl_core.proofs.Names.{same_some, no_some}
 use Rattle.dl_core.proofs.Plain.{get_marked}
 use Rattle.dl_order.specs.Example.{OneWaits, BothRun, look_op, look_module, look, look_heap, look_plan, look_calls, IsExample}

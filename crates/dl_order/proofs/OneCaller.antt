@@ -44,6 +44,8 @@ use Rattle.dl_order.specs.Ends.{history_in}
 use Rattle.dl_order.specs.OneCaller.{IsSerialCall, OneCallerIsSerial}
 use Rattle.dl_order.proofs.Ends.{runs_end}
 use Rattle.dl_order.proofs.Orders.{all_in_order}
+use Rattle.dl_lemmas.proofs.Places.{at_seam, in_first}
+use Rattle.std.proofs.lemmas.List.{map_push}
 
 -- ---- lists
 
@@ -53,24 +55,11 @@ zip_more [] (b ∷ ys) x y e = absurd (omega (arith, e))
 zip_more (a ∷ xs) [] x y e = absurd (omega (arith, e))
 zip_more (a ∷ xs) (b ∷ ys) x y e = ap (λ l. (a, b) ∷ l) (zip_more xs ys x y (omega (arith, e)))
 
-map_more : {X Y : Type 0} (f : X → Y) (xs : List X) (x : X) → map f (xs ++ x ∷ []) ≡ map f xs ++ f x ∷ []
-map_more f [] x = refl
-map_more f (a ∷ xs) x = ap (λ l. f a ∷ l) (map_more f xs x)
-
 -- the tickets of entries are those of the operations
 tickets_below : (caller ticket : ℕ) (list : List Finished) (versions : List Versions) → Each (λ (kept : Finished). kept.ticket < ticket) list → Each (λ (entry : Entry). entry.ticket < ticket) (map (entry_of caller) (zip list versions))
 tickets_below caller ticket [] versions e = tt
 tickets_below caller ticket (kept ∷ list) [] e = tt
 tickets_below caller ticket (kept ∷ list) (v ∷ versions) e = (e.0, tickets_below caller ticket list versions e.1)
-
-slice_more : {X : Type 0} (xs ys : List X) (i : ℕ) (x : X) → slice_get xs i ≡ Some x → slice_get (xs ++ ys) i ≡ Some x
-slice_more [] ys i x e = absurd (no_some e)
-slice_more (a ∷ xs) ys zero x e = e
-slice_more (a ∷ xs) ys (suc i) x e = slice_more xs ys i x e
-
-slice_last : {X : Type 0} (xs : List X) (x : X) → slice_get (xs ++ x ∷ []) (length xs) ≡ Some x
-slice_last [] x = refl
-slice_last (a ∷ xs) x = slice_last xs x
 
 -- ---- histories
 
@@ -108,7 +97,7 @@ still_called calls (suc place) call (suc other) (suc index) found e = by calls p
     by : (lists : Calls) (place other : ℕ) → option_and_then (λ (l : List Call). slice_get l index) (slice_get lists other) ≡ Some found
         → option_and_then (λ (l : List Call). slice_get l index) (slice_get (set lists place (get_or lists place [] ++ call ∷ [])) other) ≡ Some found
     by [] place other e = e
-    by (l ∷ lists) zero zero e = slice_more l (call ∷ []) index found e
+    by (l ∷ lists) zero zero e = in_first l (call ∷ []) index found e
     by (l ∷ lists) zero (suc other) e = e
     by (l ∷ lists) (suc place) zero e = e
     by (l ∷ lists) (suc place) (suc other) e = by lists place other e
@@ -119,7 +108,7 @@ now_called calls place call within = by calls place within
   where
     by : (lists : Calls) (place : ℕ) → place < length lists → option_and_then (λ (l : List Call). slice_get l (length (get_or lists place []))) (slice_get (set lists place (get_or lists place [] ++ call ∷ [])) place) ≡ Some call
     by [] place lt = absurd (omega (arith, lt))
-    by (l ∷ lists) zero lt = slice_last l call
+    by (l ∷ lists) zero lt = at_seam l [] call
     by (l ∷ lists) (suc place) lt = by lists place (omega (arith, lt))
 
 -- ---- steps
@@ -240,7 +229,7 @@ module _ (plan : Plan) (is : IsPlan plan) (caller : ℕ) where
             entries =
                 (λ i. map (entry_of caller) (zip (frame_is i).finished (versions_are i)))
                 ∙ ap (map (entry_of caller)) (zip_more frame.finished (account_of core caller).versions kept made (sym (all.sound.each caller).history.versions))
-                ∙ map_more (entry_of caller) (zip frame.finished (account_of core caller).versions) (kept, made)
+                ∙ map_push (entry_of caller) (zip frame.finished (account_of core caller).versions) (kept, made)
                 ∙ ap (λ x. entries_of core caller ++ x ∷ []) (sym is_entry);
             rests = ap (λ (f : Frame). f.stage) frame_is;
             by_caller = ap (λ (x : Entry). x.caller) is_entry;

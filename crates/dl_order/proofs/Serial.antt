@@ -34,7 +34,8 @@ use Rattle.dl_core.specs.Reach.{ticket_in}
 use Rattle.dl_core.specs.Laws.{IsKept}
 use Rattle.dl_order.specs.Serial.{AreRunning, history_of}
 use Rattle.dl_core.proofs.Diamond.{Touch, Leaves, Puts, touched, Acts, Moves}
-use Rattle.dl_core.proofs.Maps.{names, put_at_same}
+use Rattle.dl_shape.proofs.Names.{names}
+use Rattle.dl_core.proofs.Maps.{put_at_same}
 use Rattle.dl_core.proofs.Names.{same_number, same_some, no_some}
 use Rattle.dl_core.proofs.Plain.{plain_put, get_plain}
 use Rattle.dl_core.proofs.LawfulAlways.{lawful_always}

@@ -39,7 +39,8 @@ use Rattle.dl_core.specs.Reach.{ticket_in}
 use Rattle.dl_order.specs.Serial.{NoSeal}
 use Rattle.dl_core.proofs.Clearance.{moved_row}
 use Rattle.dl_core.proofs.Diamond.{Touch, Leaves, Puts, touched, Acts, Moves, step→moves}
-use Rattle.dl_core.proofs.Maps.{names, get_here}
+use Rattle.dl_shape.proofs.Names.{names}
+use Rattle.dl_core.proofs.Maps.{get_here}
 use Rattle.dl_core.proofs.Names.{same_some, no_some}
 use Rattle.dl_core.proofs.Others.{sealed_kept}
 use Rattle.dl_core.proofs.Plain.{get_plain}

@@ -1,4 +1,3 @@
-mod Copied
 mod Faults
 mod Going
 mod Covered

@@ -1,7 +1,6 @@
 -- a line of calls covers them
-use Rattle.std.proofs.Common.{◌≡◌, ℕ, zero, suc, ◌+◌, ◌<◌, ◌≤◌, ◌==◌, ◌&&◌, Bool, cond, List, [], ◌∷◌, ◌++◌, length, take, refl, sym, ap, ◌∙◌, Option, Some, None, arith, add-one, add-zero}
-use Rattle.std.specs.Prelude.{slice_get, count_by, All, AllPairs}
-use Rattle.std.proofs.lemmas.List.Sums.{sum_by-append, sum_by-cons}
+use Rattle.std.proofs.Common.{◌≡◌, ℕ, zero, suc, ◌+◌, ◌<◌, ◌≤◌, ◌==◌, ◌&&◌, Bool, cond, List, [], ◌∷◌, length, take, refl, sym, ap, ◌∙◌, Option, Some, None, arith, add-one, add-zero}
+use Rattle.std.specs.Prelude.{slice_get, All, AllPairs}
 use Rattle.std.proofs.lemmas.List.Elements.{All-push}
 use Rattle.std.proofs.lemmas.List.Quantifiers.{all_pairs_push}
 use Rattle.std.proofs.lemmas.Bool.{ne_eqb}
@@ -15,14 +14,11 @@ use Rattle.dl_ir.specs.declared.modules.Module.{Module}
 use Rattle.dl_ir.specs.Cover.{Covers, call_at, runs_of, refusals_of, one_if_there}
 use Rattle.dl_ir.specs.Heap.{Objects}
 use Rattle.dl_serial.specs.Serving.{Serves, begins, carries_out, refuses}
+use Rattle.dl_lemmas.proofs.Counts.{count-push}
 
 -- 1 where the numbers are those, 0 elsewhere
 abbrev one_at : ℕ → ℕ → ℕ → ℕ → ℕ
 one_at c n caller index = cond ((c == caller) && (n == index)) 1 0
-
--- one call more
-pub count-push : {X : Type 0} (p : X → Bool) (xs : List X) (x : X) → count_by p (xs ++ x ∷ []) ≡ count_by p xs + cond (p x) 1 0
-count-push p xs x = sum_by-append (λ y. cond (p y) 1 0) xs (x ∷ []) ∙ ap (λ n. count_by p xs + n) (sum_by-cons (λ y. cond (p y) 1 0) x [] ∙ omega arith)
 
 no_test : (a b : ℕ) → (a ≡ b → ⊥) → cond {A = ℕ} (a == b) 1 0 ≡ 0
 no_test a b apart = ap (λ (t : Bool). cond {A = ℕ} t 1 0) (ne_eqb a b apart)

@@ -17,9 +17,10 @@ use Rattle.dl_shape.specs.Replay.{replayed}
 use Rattle.dl_serial.specs.Refusing.{entries_before, heap_before, RefusesExactly}
 use Rattle.dl_serial.specs.Rooms.{allocs_of}
 use Rattle.dl_serial.specs.Serving.{Serves, begins, carries_out, refuses}
-use Rattle.dl_serial.proofs.Covering.{count-push, serves_indexes}
+use Rattle.dl_serial.proofs.Covering.{serves_indexes}
 use Rattle.dl_serial.proofs.Laws.{serves_replayed}
 use Rattle.dl_serial.proofs.Listed.{within}
+use Rattle.dl_lemmas.proofs.Counts.{count-push}
 
 less_is : (a b : ℕ) → a < b → nat_lt a b ≡ true
 less_is a b less = grind (arith, nat_tests)

@@ -1,5 +1,8 @@
+pub mod Added
 pub mod Forest
+pub mod HiddenCount
 pub mod Legal
+pub mod Names
 pub mod Order
 pub mod Rising
 pub mod Sealing

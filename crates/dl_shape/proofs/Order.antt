@@ -1,13 +1,13 @@
 -- The order in which loose objects are removed does not matter.
-use Rattle.std.proofs.Common.{◌≡◌, ℕ, zero, suc, ◌+◌, ◌≤◌, Bool, true, false, cond, ◌&&◌, refl, sym, ap, subst, ◌∙◌, Option, Some, None, arith, ◌⊎◌, inl, inr}
-use Rattle.std.specs.Prelude.{find, count_by, nat_lt, ◌==◌, if◌then◌else◌, is_some}
+use Rattle.std.proofs.Common.{◌≡◌, ℕ, zero, suc, ◌+◌, ◌≤◌, Bool, true, false, cond, ◌&&◌, refl, sym, ap, subst, ◌∙◌, Some, None, arith, inl, inr}
+use Rattle.std.specs.Prelude.{find, count_by, nat_lt, ◌==◌, if◌then◌else◌}
 use Rattle.std.specs.Option.{option_map}
-use Rattle.std.specs.Cmp.{Equal-is}
 use Rattle.std.specs.Ordering.{eq_by_cmp}
 use Rattle.std.specs.FinMap as map
-use Rattle.std.specs.FinMap.{get-remove, same_map, len-insert, empty_of_len, get-empty}
+use Rattle.std.specs.FinMap.{get-remove, same_map, empty_of_len, get-empty}
 use Rattle.std.proofs.lemmas.Bool.{ltb-true, lt-ltb, eqb-true}
-use Rattle.std.proofs.lemmas.Cmp.{eq_by_cmp_equiv}
+use Rattle.std.proofs.lemmas.Option.{none-some}
+use Rattle.dl_lemmas.proofs.Tests.{not_both}
 use Rattle.dl_ir.specs.declared.names.Name.{Name}
 use Rattle.dl_ir.specs.declared.objects.Obj.{Obj}
 use Rattle.dl_ir.specs.Heap.{Objects, name_cmp}
@@ -15,14 +15,9 @@ use Rattle.dl_shape.specs.References.{refs, refers_to}
 use Rattle.dl_shape.specs.Settling.{is_loose, first_name, IsLoose, Trims, done, drop, without, trim_by, OrderDoesNotMatter}
 use Rattle.dl_ir.proofs.NameOrder.{names_total, exact_names}
 use Rattle.dl_ir.proofs.Members.{In, in_entries, get_in, find_some, find_none}
-use Rattle.dl_ir.proofs.Totals.{total-remove, gone, put_back}
-
--- names are the same or differ
-same_or_not : (a b : Name) → (a ≡ b) ⊎ (eq_by_cmp name_cmp a b ≡ false)
-same_or_not a b = elim (eq_by_cmp name_cmp a b) as (λ c. eq_by_cmp name_cmp a b ≡ c → (a ≡ b) ⊎ (eq_by_cmp name_cmp a b ≡ false)) [
-  | true ↦ λ t. inl (exact_names a b ((Equal-is (name_cmp a b)).0 t))
-  | false ↦ λ t. inr t
-] refl
+use Rattle.dl_ir.proofs.Totals.{total-remove}
+use Rattle.dl_lemmas.proofs.Maps.{same_or_not, turned, len-taken}
+use Rattle.dl_shape.proofs.Names.{names}
 
 -- removals change places
 swap_cases : {A : Type 0} (a b : Bool) (x y : A) → cond a x (cond b x y) ≡ cond b x (cond a x y)
@@ -48,16 +43,13 @@ stays_loose h m n first other differ = record {
   alone = omega (arith, total-remove (λ (e : Name × Obj). count_by (refers_to n) e.1.fields) h m first.object first.there, other.alone);
 }
 
-turned : (a b : Name) → eq_by_cmp name_cmp a b ≡ false → eq_by_cmp name_cmp b a ≡ false
-turned a b h = sym ((eq_by_cmp_equiv names_total).symm a b) ∙ h
-
 -- a removal may come first
 first : {h t : Objects} → Trims h t → (n : Name) → IsLoose h n → Trims (map.remove h n) t
 first (done none) n loose = absurd (none n loose)
-first (drop {heap} {trimmed} m here rest) n loose = elim (same_or_not m n) [
+first (drop {heap} {trimmed} m here rest) n loose = elim (same_or_not names m n) [
   | inl same ↦ subst (λ k. Trims (map.remove heap k) trimmed) same rest
   | inr differ ↦
-      let later = first rest n (stays_loose heap m n here loose (turned m n differ)) in
+      let later = first rest n (stays_loose heap m n here loose (turned names m n differ)) in
       drop m (stays_loose heap n m loose here differ) (subst (λ g. Trims g trimmed) (remove-remove heap m n) later)
 ]
 
@@ -67,18 +59,9 @@ one_end (done none) (done other) = refl
 one_end (done none) (drop n loose rest) = absurd (none n loose)
 one_end (drop n loose rest) other = one_end rest (first other n loose)
 
-true_or_false : true ≡ false → ⊥
-true_or_false is = cc
-
-nothing : {o : Obj} → Some o ≡ None → ⊥
-nothing is = cc
-
 -- a removal leaves one object fewer
 pub len_removed : (h : Objects) (k : Name) (v : Obj) → map.get h k ≡ Some v → map.len (map.remove h k) + 1 ≡ map.len h
-len_removed h k v is =
-    sym (ap (λ (o : Option Obj). cond (is_some o) (map.len (map.remove h k)) (map.len (map.remove h k) + 1)) (gone h k))
-    ∙ sym (len-insert names_total (map.remove h k) k v)
-    ∙ ap (λ (g : Objects). map.len g) (put_back h k v is)
+len_removed h k v is = sym (len-taken names h k v is)
 
 pub fewer : (h : Objects) (k : Name) (v : Obj) (count : ℕ) → map.get h k ≡ Some v → map.len h ≤ suc count → map.len (map.remove h k) ≤ count
 fewer h k v count is few = omega (arith, len_removed h k v is)
@@ -103,11 +86,11 @@ loose-is_loose h n l =
 
 -- where no object passes, none is loose
 none_loose : (h : Objects) → find (is_loose h) (map.entries h) ≡ None → (n : Name) → IsLoose h n → ⊥
-none_loose h none n l = true_or_false (sym (loose-is_loose h n l) ∙ find_none (is_loose h) (map.entries h) (n, l.object) none (in_entries h n l.object l.there))
+none_loose h none n l = not_both (loose-is_loose h n l) (find_none (is_loose h) (map.entries h) (n, l.object) none (in_entries h n l.object l.there))
 
 -- a heap without objects has no loose one
 empty_none : (h : Objects) → map.len h ≡ 0 → (n : Name) → IsLoose h n → ⊥
-empty_none h is n l = nothing (sym l.there ∙ ap (λ (g : Objects). map.get g n) (empty_of_len h is) ∙ get-empty name_cmp n)
+empty_none h is n l = none-some l.object (sym (get-empty name_cmp n) ∙ ap (λ (g : Objects). map.get g n) (sym (empty_of_len h is)) ∙ l.there)
 
 -- so many removals at most as there are objects trim the heap
 pub trims_by : (count : ℕ) (h : Objects) → map.len h ≤ count → Trims h (trim_by count h)

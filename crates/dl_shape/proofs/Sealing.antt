@@ -3,10 +3,10 @@ use Rattle.std.proofs.Common.{◌≡◌, ℕ, ◌<◌, Bool, true, false, cond, 
 use Rattle.std.specs.Prelude.{find, sum_by, nat_lt, nat_le, if◌then◌else◌}
 use Rattle.std.specs.Option.{option_map}
 use Rattle.std.specs.Cmp.{Equal-is}
-use Rattle.std.specs.Ordering.{is_lt, eq_by_cmp}
+use Rattle.std.specs.Ordering.{eq_by_cmp}
 use Rattle.std.specs.FinMap as maps
-use Rattle.std.specs.FinMap.{is_sorted, entries_sorted, entries-from_sorted, get-from_sorted, get-entries, same_map, same_entries_map}
-use Rattle.std.specs.FinMap.Entries.{below_all}
+use Rattle.std.specs.FinMap.{is_sorted, entries-from_sorted, get-from_sorted, get-entries, same_map, same_entries_map}
+use Rattle.std.proofs.Math.Bool.{or-true, or-false}
 use Rattle.dl_ir.specs.declared.names.Name.{Name}
 use Rattle.dl_ir.specs.declared.objects.Obj.{Obj}
 use Rattle.dl_ir.specs.Heap.{Objects, name_cmp}
@@ -16,17 +16,13 @@ use Rattle.dl_ir.proofs.Members.{Held, get_in, find_some}
 use Rattle.dl_ir.proofs.Lookups.{same_or_not, got_put, got_beside}
 use Rattle.dl_ir.proofs.Totals.{total-over}
 use Rattle.dl_ir.proofs.Keeping.{refs-over}
+use Rattle.dl_lemmas.proofs.Entries as entries
 use Rattle.dl_shape.specs.Settling.{sealed_entry, sealed_heap}
 use Rattle.dl_shape.proofs.Order.{named}
 
 -- sealing keeps the names and their order
-below_sealed : (g : Objects) (x : Name) (es : Held) → below_all name_cmp x (map (sealed_entry g) es) ≡ below_all name_cmp x es
-below_sealed g x [] = refl
-below_sealed g x (e ∷ es) = ap (λ b. is_lt (name_cmp x e.0) && b) (below_sealed g x es)
-
-pub sorted_sealed : (g : Objects) (es : Held) → is_sorted name_cmp (map (sealed_entry g) es) ≡ is_sorted name_cmp es
-sorted_sealed g [] = refl
-sorted_sealed g (e ∷ es) = λ i. below_sealed g e.0 es i && sorted_sealed g es i
+pub still_sorted : (h : Objects) → T (is_sorted name_cmp (map (sealed_entry h) (maps.entries h)))
+still_sorted h = entries.still_sorted name_cmp (λ e. (sealed_entry h e).1) h
 
 -- the object of this name, sealed if it is shared
 abbrev pub sealed_at : Objects → Name → Obj → Obj
@@ -42,7 +38,7 @@ found_sealed g q (e ∷ es) =
 
 pub got_sealed : (h : Objects) (q : Name) → maps.get (sealed_heap h) q ≡ option_map (sealed_at h q) (maps.get h q)
 got_sealed h q =
-    get-from_sorted name_cmp (map (sealed_entry h) (maps.entries h)) q (subst T (sym (sorted_sealed h (maps.entries h))) (entries_sorted h))
+    get-from_sorted name_cmp (map (sealed_entry h) (maps.entries h)) q (still_sorted h)
     ∙ found_sealed h q (maps.entries h)
     ∙ ap (option_map (sealed_at h q)) (sym (get-entries h q))
 
@@ -52,14 +48,6 @@ shared_there h n is =
     let first = named (is_shared h) h n is in
     let at = find_some (is_shared h) (maps.entries h) first.0 first.1 in
     (first.0.1, ap (maps.get h) (sym first.2) ∙ get_in h first.0 at.0, ap (λ m. is_shared h (m, first.0.1)) (sym first.2) ∙ at.1)
-
-or_false : (a : Bool) → (a || false) ≡ a
-or_false true = refl
-or_false false = refl
-
-or_true : (a : Bool) → (a || true) ≡ true
-or_true true = refl
-or_true false = refl
 
 -- what is sealed counts nothing, and what is not counts one
 abbrev open_one : Name × Obj → ℕ
@@ -94,7 +82,7 @@ module _ (h : Objects) (n : Name) (is : Some n ≡ first_name (is_shared h) h) w
       ∙ elim (same_or_not q n) [
         | inl same ↦ subst (λ m. option_map (sealed_at (maps.insert h n sealed_one) m) (maps.get (maps.insert h n sealed_one) m) ≡ option_map (sealed_at h m) (maps.get h m)) (sym same) (
             ap (option_map (sealed_at (maps.insert h n sealed_one) n)) (got_put h n sealed_one)
-            ∙ ap (λ b. Some (record there.0 { sealed = b })) (sym (ap (λ b. there.0.sealed || b) there.2 ∙ or_true there.0.sealed))
+            ∙ ap (λ b. Some (record there.0 { sealed = b })) (sym (ap (λ b. there.0.sealed || b) there.2 ∙ or-true there.0.sealed))
             ∙ ap (option_map (sealed_at h n)) (sym there.1))
         | inr other ↦
             ap (option_map (sealed_at (maps.insert h n sealed_one) q)) (got_beside h n sealed_one q other)
@@ -116,7 +104,7 @@ stays h (e ∷ es) none =
       | true ↦ λ t some. cc
       | false ↦ λ t rest.
           ap (λ b. (e.0, record e.1 { sealed = e.1.sealed || b }) ∷ map (sealed_entry h) es) t
-          ∙ ap (λ b. (e.0, record e.1 { sealed = b }) ∷ map (sealed_entry h) es) (or_false e.1.sealed)
+          ∙ ap (λ b. (e.0, record e.1 { sealed = b }) ∷ map (sealed_entry h) es) (or-false e.1.sealed)
           ∙ ap (λ (l : Held). e ∷ l) (stays h es rest)
     ] refl none
 
@@ -127,5 +115,5 @@ none_found (Some e) is = cc
 -- where none is shared, none is sealed
 pub seal_end : (h : Objects) → None ≡ first_name (is_shared h) h → h ≡ sealed_heap h
 seal_end h none = same_entries_map h (sealed_heap h) (sym (
-    entries-from_sorted name_cmp (map (sealed_entry h) (maps.entries h)) (subst T (sym (sorted_sealed h (maps.entries h))) (entries_sorted h))
+    entries-from_sorted name_cmp (map (sealed_entry h) (maps.entries h)) (still_sorted h)
     ∙ stays h (maps.entries h) (none_found (find (is_shared h) (maps.entries h)) none)))

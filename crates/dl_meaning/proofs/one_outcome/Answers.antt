@@ -1,7 +1,7 @@
 use Rattle.dl_ir.specs.Checked.{IsOperation}
 use Rattle.dl_ir.specs.Typed.{types_of}
 use Rattle.dl_meaning.proofs.One.{one}
-use Rattle.dl_meaning.proofs.Places.{all_at}
+use Rattle.dl_lemmas.proofs.Places.{all_at}
 use Rattle.dl_meaning.proofs.one_outcome.Goals as goal
 
 pub returns-clause-blocks : goal.returns-clause-blocks

@@ -5,7 +5,10 @@ use Rattle.dl_ir.specs.Heap.{name_cmp}
 use Rattle.dl_ir.specs.Rows.{Rows, added}
 use Rattle.dl_core.specs.declared.objects.Object.{Object}
 use Rattle.dl_core.specs.Heaps.{marked_object}
-use Rattle.dl_core.proofs.Added.{added_changed, len_put}
+use Rattle.dl_lemmas.proofs.Entries.{still_sorted}
+use Rattle.dl_lemmas.proofs.Maps.{len-put}
+use Rattle.dl_shape.proofs.Added.{added_alone}
+use Rattle.dl_shape.proofs.Names.{names}
 use Rattle.dl_core.proofs.Plain.{changed_entry}
 use Rattle.dl_core.proofs.openings.shared_heap.Goals as goal
 
@@ -29,11 +32,11 @@ loop-name-preserved c =
           ∙ sym (ap (λ (es : _). added c.loop-name.shared.rows (map (changed_entry name_cmp marked_object) es)) step)
           ∙ c.loop-name.invariant.rows;
       room = ap (λ (r : Rows Object). r.room) put ∙ c.loop-name.invariant.room;
-      few = omega (arith, ap (λ (r : Rows Object). finite.len r.rows) put, len_put c.loop-name.shared.rows c.in-Some.name c.found_object.result, ap length step, c.loop-name.invariant.few);
+      few = omega (arith, ap (λ (r : Rows Object). finite.len r.rows) put, len-put names c.loop-name.shared.rows c.in-Some.name c.found_object.result, ap length step, c.loop-name.invariant.few);
     }
 
 pub returns : goal.returns
 returns c =
     let none = c.in-None.ensures.steps.0 in
-    let rows = ap (λ es. added c.loop-name.shared.rows (map (changed_entry name_cmp marked_object) es)) (sym none) ∙ c.loop-name.invariant.rows ∙ added_changed marked_object c.args.heap.now.objects in
+    let rows = ap (λ es. added c.loop-name.shared.rows (map (changed_entry name_cmp marked_object) es)) (sym none) ∙ c.loop-name.invariant.rows ∙ added_alone (map (changed_entry name_cmp marked_object) (finite.entries c.args.heap.now.objects)) (still_sorted name_cmp (λ e. marked_object e.1) c.args.heap.now.objects) in
     λ i. record { rows = rows i; room = c.loop-name.invariant.room i }

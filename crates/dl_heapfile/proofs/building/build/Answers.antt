@@ -2,8 +2,8 @@ use Rattle.std.proofs.Common.{ap, arith}
 use Rattle.dl_ir.specs.Heap.{View}
 use Rattle.dl_heapfile.proofs.Filling.{few_held, object_fault, too_many, built}
 use Rattle.dl_heapfile.proofs.Listed.{sorted}
-use Rattle.dl_heapfile.proofs.Rising.{yes}
 use Rattle.dl_heapfile.proofs.building.build.Goals as goal
+use Rattle.dl_lemmas.proofs.Tests.{yes}
 
 pub heap_with-requires-clause-sorted : goal.heap_with-requires-clause-sorted
 heap_with-requires-clause-sorted c = yes _ (sorted c.args.source.now c.args.entries.now c.requires.in_place.listed)

@@ -4,8 +4,8 @@ use Rattle.dl_ir.specs.declared.names.Value.TheVariants.{Ref}
 use Rattle.std.specs.Prelude.{None}
 use Rattle.dl_heapfile.specs.Blanks.{nothing}
 use Rattle.dl_heapfile.proofs.Filling.{map_one}
-use Rattle.dl_heapfile.proofs.Rising.{one_at}
 use Rattle.dl_heapfile.proofs.building.emptied.Goals as goal
+use Rattle.dl_lemmas.proofs.Places.{one_at}
 
 pub loop-preserved : goal.loop-preserved
 loop-preserved c =

@@ -2,8 +2,9 @@ use Rattle.std.proofs.Common.{ap, arith}
 use Rattle.std.specs.FinMap.{len-empty}
 use Rattle.dl_ir.specs.declared.objects.Obj.{Obj}
 use Rattle.dl_ir.specs.Heap.{name_cmp}
-use Rattle.dl_heapfile.proofs.Rising.{holds, emptied_there, written_over}
+use Rattle.dl_heapfile.proofs.Rising.{emptied_there, written_over}
 use Rattle.dl_heapfile.proofs.building.heap_with.Goals as goal
+use Rattle.dl_lemmas.proofs.Tests.{holds}
 
 pub put_emptied-requires-clause-room : goal.put_emptied-requires-clause-room
 put_emptied-requires-clause-room c = rw c.in_ok-heap.ensures (omega (arith, len-empty name_cmp Obj, c.requires.room))

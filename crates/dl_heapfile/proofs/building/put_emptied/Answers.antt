@@ -4,8 +4,8 @@ use Rattle.std.proofs.lemmas.Option.{slice_get_read}
 use Rattle.dl_ir.specs.Rows.{added}
 use Rattle.dl_heapfile.specs.Blanks.{emptied_entry}
 use Rattle.dl_heapfile.proofs.Filling.{map_one, taken_short}
-use Rattle.dl_heapfile.proofs.Rising.{added_more, len-added}
 use Rattle.dl_heapfile.proofs.building.put_emptied.Goals as goal
+use Rattle.dl_shape.proofs.Added.{added_more, len-added}
 
 pub put-requires : goal.put-requires
 put-requires c =

@@ -3,8 +3,9 @@ use Rattle.std.specs.List.{slice_get}
 use Rattle.std.proofs.lemmas.Option.{slice_get_read}
 use Rattle.dl_ir.specs.Rows.{added}
 use Rattle.dl_heapfile.proofs.Filling.{take_one}
-use Rattle.dl_heapfile.proofs.Rising.{added_more, holds, not_yet}
 use Rattle.dl_heapfile.proofs.building.write_all.Goals as goal
+use Rattle.dl_lemmas.proofs.Tests.{holds}
+use Rattle.dl_shape.proofs.Added.{added_more, not_yet}
 
 pub write-requires : goal.write-requires
 write-requires c =

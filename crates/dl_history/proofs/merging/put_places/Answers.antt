@@ -1,5 +1,5 @@
 use Rattle.std.proofs.Common.{[], ◌∷◌, ◌++◌, sym, ◌∙◌, ap, arith}
-use Rattle.dl_history.proofs.Lists.{range_push}
+use Rattle.dl_lemmas.proofs.Counts.{range_push}
 use Rattle.dl_history.proofs.merging.put_places.Goals as goal
 
 pub places-preserved : goal.places-preserved

@@ -3,7 +3,9 @@ use Rattle.std.specs.FinMap as map
 use Rattle.std.specs.FinMap.{len-empty, len-entries}
 use Rattle.dl_ir.specs.Heap.{View, name_cmp}
 use Rattle.dl_ir.specs.Rows.{added}
-use Rattle.dl_replay.proofs.Copied.{added-entries, len-put}
+use Rattle.dl_lemmas.proofs.Maps.{len-put}
+use Rattle.dl_shape.proofs.Added.{added-entries}
+use Rattle.dl_shape.proofs.Names.{names}
 use Rattle.dl_replay.proofs.copies.copied.Goals as goal
 
 pub loop-name-init : goal.loop-name-init
@@ -24,7 +26,7 @@ loop-name-preserved c =
     let room = ap (λ (v : View). v.room) c.put.ensures in
     record {
       objects = ap (λ h. added h c.next.new.self) put ∙ ap (added copy) (sym c.in-Some.ensures.steps) ∙ c.loop-name.invariant.objects;
-      few = omega (arith, ap map.len put, len-put copy c.in-Some.name c.in-Some.object.now, ap length c.in-Some.ensures.steps, c.loop-name.invariant.few, room);
+      few = omega (arith, ap map.len put, len-put names copy c.in-Some.name c.in-Some.object.now, ap length c.in-Some.ensures.steps, c.loop-name.invariant.few, room);
       room = room ∙ c.loop-name.invariant.room;
     }
 

@@ -1,24 +1,24 @@
--- Lists of numbers: filters, counts, and the part of a sorted list that has one key.
+-- Counts of what passes a test, and filters.
 use Rattle.std.proofs.Common.{◌≡◌, ℕ, zero, suc, ◌+◌, ◌-◌, ◌<◌, ◌≤◌, ◌==◌, Bool, true, false, cond, ◌&&◌, List, [], ◌∷◌, ◌++◌, length, get_or, take, drop, filter, refl, sym, ◌∙◌, ap, arith}
-use Rattle.std.proofs.lemmas.List.{length-take, get_or-take, get_or-drop}
 use Rattle.std.specs.Prelude.{count_by, remove}
 use Rattle.std.specs.List.{AllWithin, slice_range, range_with_len}
-use Rattle.std.specs.List.Sorted.{IsPermutation, IsNonDecreasingBy, IsSorted}
-use Rattle.std.specs.Ordering.{nat_cmp, ordering_then, is_lt}
-use Rattle.std.proofs.lemmas.List.Sums.{sum_by-cons}
-use Rattle.std.proofs.lemmas.List.Sorted.{IsPermutation-refl, IsPermutation-sym, IsPermutation-cons, IsPermutation-trans, IsPermutation-remove, IsNonDecreasingBy-from_all_adjacent, sum_by-IsPermutation}
+use Rattle.std.specs.List.Sorted.{IsPermutation}
+use Rattle.std.proofs.lemmas.List.Sums.{sum_by-cons, sum_by_push}
+use Rattle.std.proofs.lemmas.List.Sorted.{IsPermutation-refl, IsPermutation-sym, IsPermutation-cons, IsPermutation-trans, IsPermutation-remove, sum_by-IsPermutation}
 use Rattle.std.proofs.lemmas.Bool.Decides.{nat_tests}
+use Rattle.dl_lemmas.proofs.Tests.{same_number}
 
 -- a count over a first element and the others
 pub count-cons : {X : Type 0} (p : X → Bool) (x : X) (xs : List X) → count_by p (x ∷ xs) ≡ cond (p x) 1 0 + count_by p xs
 count-cons p x xs = sum_by-cons (λ y. cond (p y) 1 0) x xs
 
+-- one more at the end
+pub count-push : {X : Type 0} (p : X → Bool) (xs : List X) (x : X) → count_by p (xs ++ x ∷ []) ≡ count_by p xs + cond (p x) 1 0
+count-push p xs x = sum_by_push (λ y. cond (p y) 1 0) xs x
+
 -- an order of the elements changes no count
 pub count-moves : {X : Type 0} (p : X → Bool) (xs ys : List X) → IsPermutation xs ys → count_by p ys ≡ count_by p xs
 count-moves p xs ys moves = sum_by-IsPermutation (λ y. cond (p y) 1 0) xs ys moves
-
-same_number : (k : ℕ) → (k == k) ≡ true
-same_number k = grind (arith, nat_tests)
 
 -- a number that is counted is there
 counted_there : (k : ℕ) (ys : List ℕ) → 0 < count_by (λ y. y == k) ys → (i : ℕ) × (i < length ys) × (k ≡ get_or ys i k)
@@ -99,31 +99,6 @@ filter_part p (x ∷ xs) zero zero ordered within before inside after =
     (λ k d low high. absurd (omega arith)) (λ k d low high. absurd (omega arith)) (λ k d low high. after (suc k) d (omega arith) (omega arith)) in
     let no : p x ≡ false = after 0 x (omega arith) (omega arith) in
     ap (λ (b : Bool). cond b (x ∷ filter p xs) (filter p xs)) no ∙ rest
-
--- one key after another: the first never falls, and where it stays the second does not fall
-first_key : (a b c d : ℕ) → is_lt (ordering_then (nat_cmp c a) (nat_cmp d b)) ≡ false → a ≤ c
-first_key a b c d h = grind (arith, nat_tests)
-
-second_key : (a b c d : ℕ) → c ≡ a → is_lt (ordering_then (nat_cmp c a) (nat_cmp d b)) ≡ false → b ≤ d
-second_key a b c d same h = grind (arith, nat_tests)
-
--- the keys of a list that is sorted by one key after another
-module _ (first second : ℕ → ℕ) (xs : List ℕ) (sorted : IsSorted (λ a b. ordering_then (nat_cmp (first a) (first b)) (nat_cmp (second a) (second b))) xs) where
-  pub first_rises : IsNonDecreasingBy first xs
-  first_rises = IsNonDecreasingBy-from_all_adjacent first xs (λ k d within. first_key (first (get_or xs k d)) (second (get_or xs k d)) (first (get_or xs (k + 1) d)) (second (get_or xs (k + 1) d)) (sorted k d (omega arith) within))
-
-  -- where the first key is the same, the second does not fall
-  pub second_rises : (from to key : ℕ) → to ≤ length xs → AllWithin (λ x. first x ≡ key) xs from to → IsNonDecreasingBy second (slice_range xs from to)
-  second_rises from to key within same = IsNonDecreasingBy-from_all_adjacent second (slice_range xs from to) (λ k d inside.
-      let short : length (slice_range xs from to) ≤ to - from = omega (arith, length-take {A = ℕ}) in
-      let here : get_or (slice_range xs from to) k d ≡ get_or xs (from + k) d = get_or-slice xs from to k d (omega arith) in
-      let next : get_or (slice_range xs from to) (k + 1) d ≡ get_or xs (from + k + 1) d = get_or-slice xs from to (k + 1) d (omega arith) ∙ ap (λ n. get_or xs n d) (omega arith) in
-      let alike : first (get_or xs (from + k + 1) d) ≡ first (get_or xs (from + k) d) = same (from + k + 1) d (omega arith) (omega arith) ∙ sym (same (from + k) d (omega arith) (omega arith)) in
-      let rises : second (get_or xs (from + k) d) ≤ second (get_or xs (from + k + 1) d) = second_key (first (get_or xs (from + k) d)) (second (get_or xs (from + k) d)) (first (get_or xs (from + k + 1) d)) (second (get_or xs (from + k + 1) d)) alike (sorted (from + k) d (omega arith) (omega arith)) in
-      rw (here, next) rises)
-    where
-      get_or-slice : (xs : List ℕ) (from to k d : ℕ) → k < to - from → get_or (slice_range xs from to) k d ≡ get_or xs (from + k) d
-      get_or-slice xs from to k d below = get_or-take (to - from) (drop from xs) k d below ∙ get_or-drop from xs k d
 
 -- so many numbers from 0 on, and one more
 pub range_push : (n : ℕ) → range_with_len 0 (n + 1) ≡ range_with_len 0 n ++ n ∷ []
