@@ -16,6 +16,7 @@ use Rattle.dl_heapfile.specs.Reading.{behind, field, fields, with_value, kind_na
 use Rattle.dl_heapfile.proofs.LinesRead.{kind_read}
 use Rattle.dl_heapfile.proofs.ValuesRead.{behind_read, behind_written}
 use Rattle.std.proofs.Math.Seq.{take-append_seam}
+use Rattle.dl_lemmas.proofs.Places.{all_at}
 
 -- a digit that brings the number above the greatest
 pub too_large : (most : ℕ) (digits : List ℕ) (i n : ℕ) → OneDigit digits i n → most < 10 * n + (get_or digits i 0 - 48) → None ≡ (if nat_le (value digits) most then Some (value digits) else None)
