@@ -1,7 +1,7 @@
 -- Along a legal history of a forest-closed module no heap has a sealed object.
 use Rattle.std.proofs.Common.{◌≡◌, ◌≢◌, ℕ, zero, suc, ℤ, List, [], ◌∷◌, Option, Some, None, refl, sym, ap, subst}
 use Rattle.std.specs.Prelude.{All, IfSome, slice_get, option_and_then}
-use Rattle.std.proofs.lemmas.List.Elements.{All-nil, All-cons, All-head, All-tail}
+use Rattle.std.proofs.lemmas.List.Elements.{All-nil, All-cons}
 use Rattle.dl_ir.specs.declared.answers.End.{End}
 use Rattle.dl_ir.specs.declared.answers.End.TheVariants as ends
 use Rattle.dl_ir.specs.declared.answers.Entry.{Entry}

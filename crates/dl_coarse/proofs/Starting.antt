@@ -1,5 +1,5 @@
 -- How a run over the table starts: the machine is put into the slot, and each caller's own goes to a pass of its own.
-use Rattle.std.proofs.Common.{◌≡◌, ◌≢◌, ℕ, zero, suc, ◌+◌, ◌<◌, ◌≤◌, List, [], ◌∷◌, length, get_or, sym, refl, ap, ◌∙◌, subst, arith, map}
+use Rattle.std.proofs.Common.{◌≡◌, ◌≢◌, ℕ, zero, suc, ◌+◌, ◌<◌, ◌≤◌, List, [], ◌∷◌, length, sym, refl, ap, ◌∙◌, subst, arith, map}
 use Rattle.std.specs.Prelude.{Option, None, true, false, Contains, replicate}
 use mathlib.Core.Option.{some, some-injective}
 use lib.ListN.{get_elem?}

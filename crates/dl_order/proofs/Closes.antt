@@ -1,5 +1,5 @@
 -- What is left of a run that is closed when no pass has a call in hand.
-use Rattle.std.proofs.Common.{◌≡◌, ℕ, zero, suc, ◌+◌, ◌<◌, List, [], ◌∷◌, ◌++◌, map, length, Some, refl, sym, ap, ap₂, subst, ◌∙◌, arith, inl, inr}
+use Rattle.std.proofs.Common.{◌≡◌, ℕ, zero, suc, ◌+◌, List, [], ◌∷◌, ◌++◌, map, length, Some, refl, sym, ap, ap₂, subst, ◌∙◌, arith, inl, inr}
 use Rattle.std.specs.Prelude.{All, slice_get}
 use Rattle.std.specs.List.{flat_map, zip}
 use Rattle.std.specs.List.Sorted.{IsNonDecreasingBy}
@@ -20,7 +20,6 @@ use Rattle.dl_core.specs.Passes.{PassView, entries_in, refusals_in}
 use Rattle.dl_core.specs.Closing.{EndsOn, IsLawfulEnd, AreDone, AreOfCallers, all_of, begun_on, history_left}
 use Rattle.dl_core.specs.Sound.{IsSound, numbers_from}
 use Rattle.dl_core.proofs.LawfulAlways.{lawful_always}
-use Rattle.dl_core.proofs.Names.{same_some}
 use Rattle.dl_order.specs.Ends.{IsRunOver, RunsClose, history_in, all_refusals}
 use Rattle.dl_core.specs.Machines.{AreAllIdle}
 use Rattle.dl_order.proofs.Ends.{runs_end}

@@ -15,11 +15,9 @@ use Rattle.dl_ir.specs.declared.answers.Refusal.{Refusal}
 use Rattle.dl_ir.specs.declared.calls.Call.{Call}
 use Rattle.dl_ir.specs.declared.modules.Module.{Module}
 use Rattle.dl_ir.specs.declared.moves.Move.{Move}
-use Rattle.dl_ir.specs.declared.names.Name.{Name}
 use Rattle.dl_ir.specs.declared.objects.Obj.{Obj}
 use Rattle.dl_ir.specs.Cover.{Covers, call_at, runs_of, refusals_of as refusals_of_call, one_if_there}
-use Rattle.dl_ir.specs.Heap.{Objects, IsHidden, hidden_count}
-use Rattle.dl_ir.specs.References as references
+use Rattle.dl_ir.specs.Heap.{Objects, hidden_count}
 use Rattle.dl_ir.specs.CallForms.{AreCallsOf}
 use Rattle.dl_closed.specs.Unsealed.{IsUnsealed}
 use Rattle.dl_closed.proofs.Histories.{never_seals}
