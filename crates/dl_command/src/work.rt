@@ -5,14 +5,14 @@ ghost use Rattle.dl_ir.specs.CallForms.{AreCallsOf};
 ghost use Rattle.dl_ir.specs.Checked.{IsChecked};
 ghost use Rattle.dl_ir.specs.Cover.{Covers};
 ghost use Rattle.dl_ir.specs.Heap.{start_objects};
-ghost use Rattle.dl_core.specs.Heaps.{plain};
 ghost use Rattle.dl_history.specs.Histories.{joined};
 ghost use Rattle.dl_schedule.specs.Rules.{IsGiveOf};
 ghost use Rattle.dl_shape.specs.Replay.{IsLegal};
 ghost use Rattle.dl_trace.specs.Runs.{Run as ScheduledRun};
 ghost use Rattle.dl_work.specs.Summary.{summary};
 ghost use Rattle.dl_work.specs.Works.{TakesWork};
-ghost use Rattle.dl_command.specs.Promise.{IsScheduled, Prints};
+ghost use Rattle.dl_command.specs.Promise.{Prints};
+ghost use Rattle.dl_command.specs.Scheduled.{IsLeft};
 ghost use Rattle.dl_command.specs.Work.{IsWorkModule, Works};
 
 use crate::numbers::Asked;
@@ -73,8 +73,7 @@ fn run_scheduled(
     requires few { length files.now ≤ 64 }
     requires calls { All (AreCallsOf source.now) files.now }
     requires callers { All (IsGiveOf (length files.now)) schedule.now }
-    ensures scheduled { IfOk result (λ found. (end : ScheduledRun) × IsScheduled source.now (start_objects source.now) schedule.now files.now places end found.0.history found.0.refusals × (found.0.closed.heap.objects ≡ plain end.core.world.heap) × (found.1 ≡ end.waits)) }
-    ensures closed { IfOk result (λ found. joined found.0.closed.refusals ≡ found.0.refusals) }
+    ensures { IfOk result (λ found. (end : ScheduledRun) × IsLeft source.now files.now (record { heap = start_objects source.now; gives = schedule.now; places = places; end = end }) found.0 × (found.1 ≡ end.waits)) }
 {
     let given: Option<Heap> = None;
     let Ready { mut core, room } = make_ready(alloc, source, &given, files, places)?;
