@@ -30,7 +30,7 @@ use Rattle.dl_command.specs.declared.words.WordsFault.TheVariants as faults
 use Rattle.dl_command.specs.Promise.{Ends, IsScheduled, Prints, nothing_done}
 use Rattle.dl_command.specs.Wishes.{Comes, Keeps, Wish, OverFiles, FromSeed, still_wish_of_words, wish_by, wish_of, wish_of_words}
 use Rattle.dl_command.specs.Words.{Task, Text, status_of, task_of_words, unless_run}
-use Rattle.dl_command.specs.Work.{FinishesWork, IsWorkModule, KeepsWork, Works}
+use Rattle.dl_command.specs.Work.{FinishesWork, IsWorkModule, Works}
 use Rattle.dl_command.proofs.PromiseLemmas.{ends_keeps, still_is}
 
 -- there is a file for each caller

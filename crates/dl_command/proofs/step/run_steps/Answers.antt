@@ -1,4 +1,4 @@
-use Rattle.std.proofs.Common.{◌≡◌, ◌∙◌, ◌++◌, ap, refl, rules, sym}
+use Rattle.std.proofs.Common.{◌≡◌, ◌∙◌, ◌++◌, ap, rules, sym}
 use Rattle.dl_history.specs.Report.{report}
 use Rattle.dl_command.specs.Promise.{Finishes}
 use Rattle.dl_command.specs.Texts.{heap_of}
