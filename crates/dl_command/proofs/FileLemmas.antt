@@ -1,6 +1,6 @@
 -- Files that are read one after another.
 use Rattle.std.proofs.Common.{◌≡◌, ℕ, ◌+◌, ◌<◌, ◌≤◌, List, [], ◌∷◌, ◌++◌, Option, Some, Ok, take, get_or, map, length, refl, sym, ◌∙◌, ap, subst, arith, length-append}
-use Rattle.std.specs.Prelude.{All, slice_get, IfSome, None, Contains, option_map}
+use Rattle.std.specs.Prelude.{All, IfSome, None, Contains, option_map}
 use Rattle.std.proofs.Math.Nat.{le_trans}
 use Rattle.std.proofs.lemmas.List.Elements.{All-nil, All-push}
 use Rattle.dl_io.specs.Source.{Source, SameFiles, Tells}
@@ -9,7 +9,7 @@ use Rattle.dl_ir.specs.declared.modules.Module.{Module}
 use Rattle.dl_grammar.specs.declared.tree.Tree.{Tree}
 use Rattle.dl_ir.specs.CallForms.{AreCallsOf}
 use Rattle.dl_ir.specs.Checked.{IsChecked}
-use Rattle.dl_ir.specs.Heap.{Objects, View, start_objects}
+use Rattle.dl_ir.specs.Heap.{Objects, View}
 use Rattle.dl_shape.proofs.Starting.{hidden_count-start, start_is_startable}
 use Rattle.dl_heapfile.specs.Faults.{Reads}
 use Rattle.dl_heapfile.proofs.Spelled.{what_is_read_is_spelt}

@@ -14,7 +14,6 @@ mod CountLemmas
 mod PlanLemmas
 mod OverLemmas
 mod StepLemmas
-mod LeftLemmas
 mod PromiseLemmas
 mod NumberLemmas
 mod WorkLemmas

@@ -11,7 +11,7 @@ use Rattle.dl_ir.specs.Heap.{Objects, start_objects}
 use Rattle.dl_shape.proofs.Starting.{hidden_count-start, start_is_startable}
 use Rattle.dl_instr.specs.Code.{code}
 use Rattle.dl_instr.specs.DropsLaws.{PlainIsCode}
-use Rattle.dl_core.specs.Passes.{first_plan, plan_over}
+use Rattle.dl_core.specs.Passes.{plan_over}
 use Rattle.dl_core.specs.Plans.{IsPlan}
 use Rattle.dl_command.specs.Texts.{CanStart}
 
@@ -27,9 +27,6 @@ is_plan plain source heap all places checked can calls some few room = record {
   few_places = room;
 }
 
--- and so has one from its start heap
-pub starts_plan : PlainIsCode → (source : Module) (all : List (List Call)) (places : ℕ) → IsChecked source → All (AreCallsOf source) all
-    → 1 ≤ length all → length all ≤ 64 → places ≤ 65536 → IsPlan (first_plan (code source) places (map length all))
-starts_plan plain source all places checked calls some few room =
-    is_plan plain source (start_objects source) all places checked
-    (record { startable = start_is_startable source checked.start; fits = omega (arith, hidden_count-start source) }) calls some few room
+-- a run can start from the start heap
+pub can_start : (source : Module) (places : ℕ) → IsChecked source → CanStart source places (start_objects source)
+can_start source places checked = record { startable = start_is_startable source checked.start; fits = omega (arith, hidden_count-start source) }

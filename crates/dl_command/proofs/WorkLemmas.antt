@@ -9,7 +9,7 @@ use Rattle.dl_ir.specs.declared.answers.Refusal.{Refusal}
 use Rattle.dl_history.specs.Histories.{Seen}
 use Rattle.dl_ir.specs.declared.calls.Call.{Call}
 use Rattle.dl_ir.specs.declared.modules.Module.{Module}
-use Rattle.dl_ir.specs.Heap.{Objects}
+use Rattle.dl_ir.specs.Heap.{Objects, start_objects}
 use Rattle.dl_core.specs.Heaps.{plain}
 use Rattle.dl_naming.specs.Naming.{SpelledHasNames}
 use Rattle.dl_schedule.specs.declared.give.Give.{Give}
@@ -27,10 +27,10 @@ use Rattle.dl_command.specs.Causes.{Cut}
 use Rattle.dl_command.specs.Numbers.{asked_of}
 use Rattle.dl_command.specs.declared.words.WordsFault.{WordsFault}
 use Rattle.dl_command.specs.declared.words.WordsFault.TheVariants as faults
-use Rattle.dl_command.specs.Promise.{Ends, Prints, nothing_done}
+use Rattle.dl_command.specs.Promise.{Ends, IsScheduled, Prints, nothing_done}
 use Rattle.dl_command.specs.Wishes.{Comes, Keeps, Wish, OverFiles, FromSeed, still_wish_of_words, wish_by, wish_of, wish_of_words}
 use Rattle.dl_command.specs.Words.{Task, Text, status_of, task_of_words, unless_run}
-use Rattle.dl_command.specs.Work.{FinishesWork, IsScheduledRun, IsWorkModule, KeepsWork, Works}
+use Rattle.dl_command.specs.Work.{FinishesWork, IsWorkModule, Works}
 use Rattle.dl_command.proofs.PromiseLemmas.{ends_keeps, still_is}
 
 -- there is a file for each caller
@@ -40,14 +40,14 @@ work_many seed count callers = length-map-range_with_len (file_of seed count cal
 -- what was run, replayed and counted is what the summary tells
 pub works_is : (asked : Asked) (places : ℕ) (source : Module) (all : List (List Call)) (gives : List Give) (end : Run) (history : Seen) (refusals left : List Refusal) (heap : Objects) (waits replayed : ℕ)
     → IsWorkModule source → all ≡ files_of asked.seed asked.count asked.callers → gives ≡ schedule_of asked.seed asked.count asked.callers
-    → IsScheduledRun source all gives places end history refusals → heap ≡ plain end.core.world.heap → waits ≡ end.waits → left ≡ refusals → replayed ≡ length history.entries
+    → IsScheduled source (start_objects source) gives all places end history refusals → heap ≡ plain end.core.world.heap → waits ≡ end.waits → left ≡ refusals → replayed ≡ length history.entries
     → Works asked places history refusals (summary (record { seed = asked.seed; count = asked.count; callers = asked.callers; waits = waits; replayed = replayed }) history.entries left heap)
 works_is asked places source all gives end history refusals left heap waits replayed is_module files schedule scheduled heap_is waits_are left_is replayed_are = record {
   source = source;
   is_module = is_module;
   end = end;
-  scheduled = subst (λ (cs : List (List Call)). IsScheduledRun source cs (schedule_of asked.seed asked.count asked.callers) places end history refusals) files
-      (subst (λ (gs : List Give). IsScheduledRun source all gs places end history refusals) schedule scheduled);
+  scheduled = subst (λ (cs : List (List Call)). IsScheduled source (start_objects source) (schedule_of asked.seed asked.count asked.callers) cs places end history refusals) files
+      (subst (λ (gs : List Give). IsScheduled source (start_objects source) gs all places end history refusals) schedule scheduled);
   is_summary = ap (λ (w : ℕ). summary (figures w replayed) history.entries left heap) waits_are
       ∙ ap (λ (r : ℕ). summary (figures end.waits r) history.entries left heap) replayed_are
       ∙ ap (λ (rs : List Refusal). summary (figures end.waits (length history.entries)) history.entries rs heap) left_is

@@ -70,19 +70,19 @@ pub record Reports (source : Module) (heap : Objects) (all : List (List Call)) (
 abbrev pub plan_of : Module → Objects → List (List Call) → ℕ → Plan
 plan_of source heap all places = plan_over (code source) heap places (map length all)
 
--- this is the end of the scheduled run of the calls from this heap, with this history and these refusals, which is a run of the calls;
--- and the heap at the end is the one that the history leads to
+-- this is the end of the scheduled run of the calls from this heap, with this history and these refusals, which is a run of the calls
 pub record IsScheduled (source : Module) (heap : Objects) (gives : List Give) (all : List (List Call)) (places : ℕ) (end : Scheduled) (history : Seen) (refusals : List Refusal) : Type 0 where
   pub run : ScheduleRun (plan_of source heap all places) all gives end
   pub entries : history.entries ≡ history_in (plan_of source heap all places) end.core
   pub refused : refusals ≡ all_refusals (plan_of source heap all places) end.core
-  pub heap_at_end : plain end.core.world.heap ≡ replayed source all heap history.entries
   pub is_run : IsRun source heap all places history refusals
 
--- the text is the trace of the scheduled run of the calls from this heap, and behind it its report
+-- the text is the trace of the scheduled run of the calls from this heap, and behind it its report; and the heap at the end of the run
+-- is the one that the history leads to
 pub record Traces (source : Module) (heap : Objects) (gives : List Give) (all : List (List Call)) (places : ℕ) (history : Seen) (refusals : List Refusal) (text : Text) : Type 0 where
   pub end : Scheduled
   pub scheduled : IsScheduled source heap gives all places end history refusals
+  pub heap_at_end : plain end.core.world.heap ≡ replayed source all heap history.entries
   pub is_text : text ≡ end.text ++ report_of source heap all history.entries refusals
 
 -- what a command writes of what its files spell: `serial` and `run` the report of a run of the calls from the heap that is given, or

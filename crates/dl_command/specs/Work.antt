@@ -1,10 +1,9 @@
 -- What `work` promises: the summary of the scheduled run of the operations that a seed gives.
-use Rattle.std.specs.Prelude.{◌≡◌, ◌≢◌, ◌⊎◌, ℕ, List, [], length, map}
+use Rattle.std.specs.Prelude.{◌≡◌, ◌≢◌, ◌⊎◌, ℕ, List, [], length}
 use Rattle.dl_io.specs.Faults.{Rose}
 use Rattle.dl_io.specs.Source.{Source}
 use Rattle.dl_io.specs.Taken.{Taken, Took}
 use Rattle.dl_ir.specs.declared.answers.Refusal.{Refusal}
-use Rattle.dl_ir.specs.declared.calls.Call.{Call}
 use Rattle.dl_ir.specs.declared.modules.Module.{Module}
 use Rattle.dl_ir.specs.Heap.{start_objects}
 use Rattle.dl_grammar.specs.declared.tree.Tree.{Tree}
@@ -13,12 +12,7 @@ use Rattle.dl_types.specs.Rules.{Types}
 use Rattle.dl_modules.specs.declared.TheConstants.{SKEW}
 use Rattle.dl_core.specs.Heaps.{plain}
 use Rattle.dl_history.specs.Histories.{Seen}
-use Rattle.dl_instr.specs.Code.{code}
-use Rattle.dl_core.specs.Passes.{first_plan}
-use Rattle.dl_core.specs.Plans.{Plan}
-use Rattle.dl_order.specs.Ends.{all_refusals, history_in}
-use Rattle.dl_schedule.specs.declared.give.Give.{Give}
-use Rattle.dl_trace.specs.Runs.{Run, ScheduleRun}
+use Rattle.dl_trace.specs.Runs.{Run}
 use Rattle.dl_work.specs.declared.summaries.Figures.{Figures}
 use Rattle.dl_work.specs.Summary.{summary}
 use Rattle.dl_work.specs.Works.{files_of, schedule_of}
@@ -27,7 +21,7 @@ use Rattle.dl_command.specs.declared.status.Status.{Status}
 use Rattle.dl_command.specs.declared.status.Status.TheVariants as statuses
 use Rattle.dl_command.specs.declared.top.Outcome.{Outcome}
 use Rattle.dl_command.specs.Causes.{Cut}
-use Rattle.dl_command.specs.Promise.{IsRun, Prints, nothing_done}
+use Rattle.dl_command.specs.Promise.{IsScheduled, Prints, nothing_done}
 use Rattle.dl_command.specs.Words.{Text}
 
 -- the module of generated work: its text spells a tree, and the tree is the module
@@ -36,28 +30,17 @@ pub record IsWorkModule (source : Module) : Type 0 where
   pub spelled : SpellsTree SKEW.now tree
   pub typed : Types tree source
 
--- the run of the module's own code from its start heap, with so many places and these operations of each caller
-abbrev pub plan_from_start : Module → List (List Call) → ℕ → Plan
-plan_from_start source all places = first_plan (code source) places (map length all)
-
--- this is the end of the scheduled run of the operations; history and refusals are those of that end, and are a run of the operations
-pub record IsScheduledRun (source : Module) (all : List (List Call)) (gives : List Give) (places : ℕ) (end : Run) (history : Seen) (refusals : List Refusal) : Type 0 where
-  pub run : ScheduleRun (plan_from_start source all places) all gives end
-  pub is_history : history.entries ≡ history_in (plan_from_start source all places) end.core
-  pub are_refusals : refusals ≡ all_refusals (plan_from_start source all places) end.core
-  pub is_run : IsRun source (start_objects source) all places history refusals
-
 -- what the summary tells of a scheduled run beside its history and what it left; the replay goes through all entries
 abbrev pub figures_of : Asked → Run → Seen → Figures
 figures_of asked end history = record { seed = asked.seed; count = asked.count; callers = asked.callers; waits = end.waits; replayed = length history.entries }
 
--- the text is the summary of the scheduled run of the operations and the schedule that the seed gives, and history and refusals are
--- those of that run
+-- the text is the summary of the scheduled run of the operations and the schedule that the seed gives, from the start heap of the
+-- module, and history and refusals are those of that run
 pub record Works (asked : Asked) (places : ℕ) (history : Seen) (refusals : List Refusal) (text : Text) : Type 0 where
   pub source : Module
   pub is_module : IsWorkModule source
   pub end : Run
-  pub scheduled : IsScheduledRun source (files_of asked.seed asked.count asked.callers) (schedule_of asked.seed asked.count asked.callers) places end history refusals
+  pub scheduled : IsScheduled source (start_objects source) (schedule_of asked.seed asked.count asked.callers) (files_of asked.seed asked.count asked.callers) places end history refusals
   pub is_summary : text ≡ summary (figures_of asked end history) history.entries refusals (plain end.core.world.heap)
 
 -- how generated work ends: memory runs out, or its summary is written as far as the sink takes it

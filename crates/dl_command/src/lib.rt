@@ -6,7 +6,6 @@ mod loading;
 mod numbers;
 mod reading;
 mod run;
-mod scheduled;
 mod show;
 mod status;
 mod step;

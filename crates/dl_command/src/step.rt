@@ -4,18 +4,14 @@ ghost use Rattle.std.specs.Prelude.{◌≡◌, ◌≤◌, ◌++◌, ℕ, false, 
 ghost use Rattle.dl_io.specs.Taken.{Taken};
 ghost use Rattle.dl_ir.specs.CallForms.{AreCallsOf};
 ghost use Rattle.dl_ir.specs.Checked.{IsChecked};
-ghost use Rattle.dl_ir.specs.Cover.{Covers};
 ghost use Rattle.dl_core.specs.Machines.{opened, plan_at};
 ghost use Rattle.dl_core.specs.Passes.{plan_over};
 ghost use Rattle.dl_core.specs.Plans.{IsPlan};
-ghost use Rattle.dl_shape.specs.Pool.{moves_of, in_rising_versions};
-ghost use Rattle.dl_shape.specs.Replay.{replayed};
-ghost use Rattle.dl_history.specs.Histories.{joined, AreByCaller};
+ghost use Rattle.dl_history.specs.Report.{report};
 ghost use Rattle.dl_text.specs.Writing.{Breaks, Passes, nothing};
 ghost use Rattle.dl_schedule.specs.Rules.{IsGiveOf};
-ghost use Rattle.dl_trace.specs.Runs.{Run as ScheduledRun};
-ghost use Rattle.dl_command.specs.Promise.{Finishes, IsScheduled, Prints, report_of};
-ghost use Rattle.dl_command.specs.Scheduled.{IsAtEnd, IsReady, IsRoom};
+ghost use Rattle.dl_command.specs.Promise.{Finishes, Prints};
+ghost use Rattle.dl_command.specs.Scheduled.{Course, HasEnded, IsLeft, IsReady, IsRoom};
 ghost use Rattle.dl_command.specs.Texts.{CanStart, first_heap, heap_of};
 ghost use Rattle.dl_command.specs.Words.{Text};
 
@@ -27,7 +23,7 @@ use dl_core::Core;
 use dl_history::{MergeRoom, gather, merge};
 use dl_instr::{Code, codes_of_modules, instrument};
 use dl_io::{Failed, Sink};
-use dl_ir::{Heap, Refusal};
+use dl_ir::{Calls, Heap, Module, Refusal};
 use dl_text::Out;
 use dl_trace::{Counts, run_schedule, scheduled_runs_are_over};
 use sqlite_items::Items;
@@ -67,23 +63,28 @@ fn core_over(
 
 /// Takes all memory of a scheduled run of calls from the heap that is given, or else the start heap of their module, with so
 /// many hidden objects at a time at most.
-pub fn make_ready(alloc: Global, input: &Input, places: u32) -> Result<Ready, AllocError>
+pub fn make_ready(
+    alloc: Global,
+    source: &Module,
+    given: &Option<Heap>,
+    files: &[Calls],
+    places: u32,
+) -> Result<Ready, AllocError>
     requires places { places ≤ 65536 }
-    requires checked { IsChecked input.now.source }
-    requires some { 1 ≤ length input.now.all.items }
-    requires few { length input.now.all.items ≤ 64 }
-    requires calls { All (AreCallsOf input.now.source) input.now.all.items }
-    requires start { CanStart input.now.source places (heap_of input.now) }
-    ensures { IfOk result (IsReady input.now places) }
+    requires checked { IsChecked source.now }
+    requires some { 1 ≤ length files.now }
+    requires few { length files.now ≤ 64 }
+    requires calls { All (AreCallsOf source.now) files.now }
+    requires start { CanStart source.now places (first_heap source.now given.now) }
+    ensures { IfOk result (IsReady source.now (first_heap source.now given.now) files.now places) }
 {
     codes_of_modules();
-    let files = input.all.as_slice();
-    let code = instrument(alloc, &input.source)?;
+    let code = instrument(alloc, source)?;
     let sizes = sizes_of(alloc, files)?;
     let total = total_of(files);
     let merging = MergeRoom::new(alloc, total)?;
     let refusals = Vec::with_capacity(alloc, total as usize)?;
-    let core = core_over(alloc, code, &input.heap, places, &sizes)?;
+    let core = core_over(alloc, code, given, places, &sizes)?;
     Ok(Ready {
         core,
         room: Room { merging, refusals },
@@ -91,16 +92,11 @@ pub fn make_ready(alloc: Global, input: &Input, places: u32) -> Result<Ready, Al
 }
 
 /// What the machine leaves at the end of a scheduled run. It takes no memory.
-pub fn close_run(input: &Input, core: Core, room: Room) -> Run
-    requires end { (places : ℕ) × (end : ScheduledRun) × IsAtEnd input.now places end core }
-    requires room { IsRoom input.now room }
-    requires calls { All (AreCallsOf input.now.source) input.now.all.items }
-    requires callers { All (IsGiveOf (length input.now.all.items)) input.now.schedule }
-    ensures scheduled { (places : ℕ) (end : ScheduledRun) → IsAtEnd input.now places end core → IsScheduled input.now.source (heap_of input.now) input.now.schedule input.now.all.items places end result.history result.refusals }
-    ensures heap { result.closed.heap.objects ≡ replayed input.now.source input.now.all.items (heap_of input.now) result.history.entries }
-    ensures moves { result.history.moves ≡ in_rising_versions (moves_of input.now.source input.now.all.items result.history.entries) }
-    ensures refusals { (joined result.closed.refusals ≡ result.refusals) × AreByCaller result.closed.refusals }
-    ensures covers { Covers input.now.all.items result.history.entries result.refusals }
+pub fn close_run(source: &Module, files: &[Calls], core: Core, room: Room) -> Run
+    requires ended { (course : Course) × HasEnded source.now files.now course core }
+    requires room { IsRoom files.now room }
+    requires calls { All (AreCallsOf source.now) files.now }
+    ensures { (course : Course) → HasEnded source.now files.now course core → IsLeft source.now files.now course result }
 {
     scheduled_runs_are_over();
     let Room {
@@ -108,7 +104,7 @@ pub fn close_run(input: &Input, core: Core, room: Room) -> Run
         mut refusals,
     } = room;
     let closed = core.close();
-    let history = merge(&input.source, input.all.as_slice(), &closed, merging);
+    let history = merge(source, files, &closed, merging);
     gather(closed.refusals.as_slice(), &mut refusals);
     Run {
         history,
@@ -128,11 +124,8 @@ fn write_behind<K: Sink>(
     requires works { OnOk traced (out.old.failed ≡ false) }
     requires few { length input.now.all.items ≤ 64 }
     requires calls { All (AreCallsOf input.now.source) input.now.all.items }
-    requires covers { Covers input.now.all.items run.now.history.entries run.now.refusals }
-    requires heap { run.now.closed.heap.objects ≡ replayed input.now.source input.now.all.items (heap_of input.now) run.now.history.entries }
-    requires moves { run.now.history.moves ≡ in_rising_versions (moves_of input.now.source input.now.all.items run.now.history.entries) }
-    requires refusals { (joined run.now.closed.refusals ≡ run.now.refusals) × AreByCaller run.now.closed.refusals }
-    ensures { (start : Taken) (text : Text) → OnOk traced (Passes start nothing text (K.taken sink.old) out.old) → OnErr traced (Breaks start nothing text (K.taken sink.old)) → Prints result (text ++ report_of input.now.source (heap_of input.now) input.now.all.items run.now.history.entries run.now.refusals) start (K.taken sink.new) }
+    requires left { (course : Course) × IsLeft input.now.source input.now.all.items course run.now }
+    ensures { (start : Taken) (text : Text) → OnOk traced (Passes start nothing text (K.taken sink.old) out.old) → OnErr traced (Breaks start nothing text (K.taken sink.old)) → Prints result (text ++ report input.now.source input.now.all.items run.now.history.entries run.now.refusals run.now.closed.heap.objects) start (K.taken sink.new) }
 {
     match traced {
         Ok(_) => match put_run(&input.source, input.all.as_slice(), run, out, sink) {
@@ -145,17 +138,17 @@ fn write_behind<K: Sink>(
 
 /// Runs calls by their schedule, and writes the trace and the report. Where the sink fails the run still goes to its end.
 pub fn run_steps<K: Sink>(input: &Input, ready: Ready, sink: &mut K) -> (Status, Run)
-    requires ready { (places : ℕ) × IsReady input.now places ready }
+    requires ready { (places : ℕ) × IsReady input.now.source (heap_of input.now) input.now.all.items places ready }
     requires few { length input.now.all.items ≤ 64 }
     requires calls { All (AreCallsOf input.now.source) input.now.all.items }
     requires callers { All (IsGiveOf (length input.now.all.items)) input.now.schedule }
-    ensures { (places : ℕ) → IsReady input.now places ready → Finishes Verb.Step input.now places (K.taken sink.old) (K.taken sink.new) result.0 result.1.history result.1.refusals }
+    ensures { (places : ℕ) → IsReady input.now.source (heap_of input.now) input.now.all.items places ready → Finishes Verb.Step input.now places (K.taken sink.old) (K.taken sink.new) result.0 result.1.history result.1.refusals }
 {
     let Ready { mut core, room } = ready;
     let mut out = Out::new();
     let files = input.all.as_slice();
     let traced = run_schedule(&mut core, files, &input.schedule, &mut out, sink);
-    let run = close_run(input, core, room);
+    let run = close_run(&input.source, files, core, room);
     let status = write_behind(traced, input, &run, &mut out, sink);
     (status, run)
 }

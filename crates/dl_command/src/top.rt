@@ -126,7 +126,13 @@ fn step<K: Sink>(alloc: Global, input: &Input, places: u32, out: &mut K) -> Outc
     requires start { CanStart input.now.source places (heap_of input.now) }
     ensures { Finishes Verb.Step input.now places (K.taken out.old) (K.taken out.new) result.status result.history result.refusals }
 {
-    match make_ready(alloc, input, places) {
+    match make_ready(
+        alloc,
+        &input.source,
+        &input.heap,
+        input.all.as_slice(),
+        places,
+    ) {
         Ok(ready) => {
             let (status, run) = run_steps(input, ready, out);
             Outcome {

@@ -6,23 +6,28 @@ ghost use Rattle.dl_ir.specs.Checked.{IsChecked};
 ghost use Rattle.dl_ir.specs.Cover.{Covers};
 ghost use Rattle.dl_ir.specs.Heap.{start_objects};
 ghost use Rattle.dl_history.specs.Histories.{joined};
+ghost use Rattle.dl_schedule.specs.Rules.{IsGiveOf};
 ghost use Rattle.dl_shape.specs.Replay.{IsLegal};
+ghost use Rattle.dl_trace.specs.Runs.{Run as ScheduledRun};
 ghost use Rattle.dl_work.specs.Summary.{summary};
 ghost use Rattle.dl_work.specs.Works.{TakesWork};
 ghost use Rattle.dl_command.specs.Promise.{Prints};
+ghost use Rattle.dl_command.specs.Scheduled.{IsLeft};
 ghost use Rattle.dl_command.specs.Work.{IsWorkModule, Works};
 
 use crate::numbers::Asked;
 use crate::run::Run;
-use crate::scheduled::run_scheduled;
 use crate::status::Status;
+use crate::step::{Ready, close_run, make_ready};
 use dl_grammar::{SyntaxFault, read_module};
 use dl_io::{Failed, Sink};
 use dl_ir::{Calls, Heap, Module};
 use dl_modules::SKEW;
 use dl_replay::{ReplayFault, covered_entries_name_operations, replay};
+use dl_schedule::Schedule;
 use dl_skew::skew_takes_work;
 use dl_text::Out;
+use dl_trace::run_quiet;
 use dl_types::{TypeFault, check};
 use dl_work::{Figures, Work, make_work, write_summary};
 use std::alloc::{AllocError, Global};
@@ -51,6 +56,30 @@ fn work_module(alloc: Global) -> Result<Module, AllocError>
         Err(TypeFault::Memory) => Err(AllocError),
         Err(_) => unreachable!(),
     }
+}
+
+// Runs the operations of files by a schedule, without a trace, from the start heap of their module, with so many hidden
+// objects at a time at most; with how often a caller waited. All memory is taken before the first operation begins.
+fn run_scheduled(
+    alloc: Global,
+    source: &Module,
+    files: &[Calls],
+    schedule: &Schedule,
+    places: u32,
+) -> Result<(Run, u64), AllocError>
+    requires places { places ≤ 65536 }
+    requires checked { IsChecked source.now }
+    requires some { 1 ≤ length files.now }
+    requires few { length files.now ≤ 64 }
+    requires calls { All (AreCallsOf source.now) files.now }
+    requires callers { All (IsGiveOf (length files.now)) schedule.now }
+    ensures { IfOk result (λ found. (end : ScheduledRun) × IsLeft source.now files.now (record { heap = start_objects source.now; gives = schedule.now; places = places; end = end }) found.0 × (found.1 ≡ end.waits)) }
+{
+    let given: Option<Heap> = None;
+    let Ready { mut core, room } = make_ready(alloc, source, &given, files, places)?;
+    let counts = run_quiet(&mut core, files, schedule);
+    let run = close_run(source, files, core, room);
+    Ok((run, counts.waits))
 }
 
 // Replays a legal history from the start heap of its module, and answers the number of its entries. None of them is at

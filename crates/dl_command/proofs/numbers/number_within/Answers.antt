@@ -1,4 +1,4 @@
-use Rattle.std.proofs.Common.{◌∙◌, ◌<◌, ◌≤◌, inl, inr, sym, arith}
+use Rattle.std.proofs.Common.{◌∙◌, inl, inr, sym, arith}
 use Rattle.dl_command.proofs.NumberLemmas.{outside_says_none, plus_says_none, read_says, unread_says_none}
 use Rattle.dl_command.proofs.numbers.number_within.Goals as goal
 

@@ -1,8 +1,6 @@
-use Rattle.std.proofs.Common.{◌≡◌, ◌∙◌, refl, map}
+use Rattle.std.proofs.Common.{◌∙◌, refl}
 use Rattle.std.proofs.lemmas.List.{length-map}
 use Rattle.dl_command.specs.Promise.{Ends}
-use Rattle.dl_command.specs.Texts.{AreFiles, behind_of, nothing_behind}
-use Rattle.dl_command.specs.Wanted.{operations_from, wanted_by}
 use Rattle.dl_command.specs.Words.{task_of}
 use Rattle.dl_command.proofs.EndLemmas.{ends_finished}
 use Rattle.dl_command.proofs.FileLemmas.{operations_behind}

@@ -36,6 +36,7 @@ returns c =
     let asked = c.args.asked in
     let made = c.in_ok-files.ensures in
     let files : c.as_slice-files.result.now ≡ files_of asked.seed asked.count asked.callers = c.as_slice-files.ensures ∙ ap (λ (w : Work). w.files) made.work in
-    let ran = c.in_ok-run.ensures.scheduled in
+    let ran = c.in_ok-run.ensures in
+    let left = ran.1 in
     works_is asked c.args.places c.in_ok-source.source c.as_slice-files.result.now c.in_ok-files.field-0.schedule ran.0 c.in_ok-run.run'.history c.in_ok-run.run'.refusals
-    _ _ _ _ c.in_ok-source.ensures.is_module files (ap (λ (w : Work). w.schedule) made.work) ran.1 ran.2 ran.3 c.in_ok-run.ensures.closed c.in_ok-replayed.ensures
+    _ _ _ _ c.in_ok-source.ensures.is_module files (ap (λ (w : Work). w.schedule) made.work) left.scheduled left.heap ran.2 left.refusals.0 c.in_ok-replayed.ensures
