@@ -69,7 +69,6 @@ module _ (decls : List FieldDecl) (i : ℕ) (d : FieldDecl) (within : i < length
 pub all_fields : (decls : List FieldDecl) (held : List Value) (rest : List ℕ) (all : Option (List Value × List ℕ)) → decls ≡ [] → onto held (fields decls rest) ≡ all → all ≡ Some (held, rest)
 all_fields decls held rest all none same = sym same ∙ ap (λ (l : List FieldDecl). onto held (fields l rest)) none ∙ ap (λ (l : List Value). Some (l, rest)) (append-nil held)
 
-
 -- the kind that is found is one of them
 pub named_kind : (P : KindDecl → Type 0) (word : List ℕ) (kinds : List KindDecl) (found : ℕ × KindDecl) → All P kinds → kind_named 0 word kinds ≡ Some found → P found.1
 named_kind P word kinds found all is = let read = kind_read 0 word kinds found is in all_at P kinds read.0 found.1 all read.2

@@ -1,10 +1,11 @@
 -- What a check that gave a value says of its parts.
-use Rattle.std.proofs.Common.{◌≡◌, ◌+◌, Bool, true, false, ◌&&◌, List, [], ◌∷◌, ◌++◌, length, map, refl, sym, ap, subst, ◌∙◌, Option, Some, None, Result, Ok, Err, arith, ◌⊎◌, inl, inr, All, if◌then◌else◌}
+use Rattle.std.proofs.Common.{append_assoc, ◌≡◌, ◌+◌, Bool, true, false, ◌&&◌, List, [], ◌∷◌, ◌++◌, length, map, refl, sym, ap, subst, ◌∙◌, Option, Some, None, Result, Ok, Err, arith, ◌⊎◌, inl, inr, All, if◌then◌else◌}
 use Rattle.std.specs.List.{AllByRecursion}
 use Rattle.std.proofs.lemmas.List.Elements.{All-push}
 use Rattle.dl_types.specs.declared.fault.TypeFault.{TypeFault}
 use Rattle.dl_types.specs.Checks.{◌>>=◌, or_fault, each}
 use Rattle.dl_types.specs.Names.{or_else}
+use Rattle.std.proofs.lemmas.List.{append-nil, length_push, map_push}
 
 pub bind_ok : {A B : Type 0} (r : Result A TypeFault) (next : A → Result B TypeFault) (b : B) → (r >>= next) ≡ Ok b → (a : A) × (r ≡ Ok a) × (next a ≡ Ok b)
 bind_ok (Ok a) next b e = (a, refl, e)
@@ -54,18 +55,6 @@ each_all P Q check holds done (a ∷ more) ys all q e =
     let first = bind_ok (check done a) _ ys e in
     each_all P Q check holds (done ++ first.0 ∷ []) more ys (All-push P done first.0 all (holds done a first.0 q.0 first.1)) q.1 first.2
 
-map-push : {B C : Type 0} (f : B → C) (xs : List B) (y : B) → map f (xs ++ y ∷ []) ≡ map f xs ++ f y ∷ []
-map-push f [] y = refl
-map-push f (x ∷ xs) y = ap (λ l. f x ∷ l) (map-push f xs y)
-
-push-append : {C : Type 0} (xs : List C) (y : C) (zs : List C) → (xs ++ y ∷ []) ++ zs ≡ xs ++ y ∷ zs
-push-append [] y zs = refl
-push-append (x ∷ xs) y zs = ap (λ l. x ∷ l) (push-append xs y zs)
-
-append-nil : {C : Type 0} (xs : List C) → xs ++ [] ≡ xs
-append-nil [] = refl
-append-nil (x ∷ xs) = ap (λ l. x ∷ l) (append-nil xs)
-
 -- what each value has of what it was made of, all have
 pub each_map : {A B C : Type 0} (f : B → C) (g : A → C) (check : List B → A → Result B TypeFault)
     → ((before : List B) (a : A) (b : B) → check before a ≡ Ok b → f b ≡ g a)
@@ -74,16 +63,12 @@ each_map f g check same done [] ys e = ap (map f) (sym (same_ok done ys e)) ∙ 
 each_map f g check same done (a ∷ more) ys e =
     let first = bind_ok (check done a) _ ys e in
     each_map f g check same (done ++ first.0 ∷ []) more ys first.2
-    ∙ ap (λ l. l ++ map g more) (map-push f done first.0 ∙ ap (λ c. map f done ++ c ∷ []) (same done a first.0 first.1))
-    ∙ push-append (map f done) (g a) (map g more)
+    ∙ ap (λ l. l ++ map g more) (map_push f done first.0 ∙ ap (λ c. map f done ++ c ∷ []) (same done a first.0 first.1))
+    ∙ append_assoc (map f done) (g a ∷ []) (map g more)
 
 -- there are as many values as there were elements
 pub each_length : {A B : Type 0} (check : List B → A → Result B TypeFault) (done : List B) (xs : List A) (ys : List B) → each check done xs ≡ Ok ys → length ys ≡ length done + length xs
 each_length check done [] ys e = let same = ap length (same_ok done ys e) in omega (arith, same)
 each_length check done (a ∷ more) ys e =
     let first = bind_ok (check done a) _ ys e in
-    omega (arith, each_length check (done ++ first.0 ∷ []) more ys first.2, pushed done first.0)
-  where
-    pushed : {B : Type 0} (l : List B) (b : B) → length (l ++ b ∷ []) ≡ length l + 1
-    pushed [] b = refl
-    pushed (x ∷ l) b = omega (arith, pushed l b)
+    omega (arith, each_length check (done ++ first.0 ∷ []) more ys first.2, length_push done first.0)

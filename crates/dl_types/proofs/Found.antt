@@ -6,6 +6,7 @@ use Rattle.dl_ir.specs.declared.modules.LocalDecl.{LocalDecl}
 use Rattle.dl_ir.specs.declared.modules.Ty.{Ty}
 use Rattle.dl_types.specs.Names.{first_named, local_named, local_of}
 use Rattle.dl_types.proofs.Checking.{first_or_rest, one_or_other}
+use Rattle.dl_lemmas.proofs.Places.{in_first, in_second}
 
 -- the element at the number that is found
 pub record Found {A B : Type 0} (meaning : A → B) (xs : List A) (start : ℕ) (found : ℕ × B) : Type 0 where
@@ -25,17 +26,6 @@ first_found name meaning start (a ∷ more) text found e = elim (first_or_rest (
       record { place = suc later.place; element = later.element; number = omega (arith, later.number); is_there = later.is_there; means = later.means }
 ]
 
--- what stands in a list stands in a longer one
-in_left : {A : Type 0} (xs ys : List A) (at : ℕ) (a : A) → slice_get xs at ≡ Some a → slice_get (xs ++ ys) at ≡ Some a
-in_left [] ys at a e = cc
-in_left (x ∷ xs) ys zero a e = e
-in_left (x ∷ xs) ys (suc at) a e = in_left xs ys at a e
-
-in_right : {A : Type 0} (xs ys : List A) (at place : ℕ) (a : A) → at ≡ length xs + place → slice_get ys place ≡ Some a → slice_get (xs ++ ys) at ≡ Some a
-in_right [] ys at place a n e = let same : at ≡ place = omega (arith, n) in ap (slice_get ys) same ∙ e
-in_right (x ∷ xs) ys zero place a n e = absurd (omega (arith, n))
-in_right (x ∷ xs) ys (suc at) place a n e = let less : at ≡ length xs + place = omega (arith, n) in in_right xs ys at place a less e
-
 -- the types of parameters and vars
 abbrev pub types_in : List LocalDecl → List LocalDecl → List Ty
 types_in params vars = map (λ (local : LocalDecl). local.ty) (params ++ vars)
@@ -53,11 +43,11 @@ local_found params vars text found e = elim (one_or_other (local_named 0 params 
       let f = first_found name_of type_in 0 params text found first in
       let same : found.0 ≡ f.place = omega (arith, f.number) in
       slice_get-map type_in (params ++ vars) found.0
-      ∙ ap (option_map type_in) (in_left params vars found.0 f.element (ap (slice_get params) same ∙ f.is_there))
+      ∙ ap (option_map type_in) (in_first params vars found.0 f.element (ap (slice_get params) same ∙ f.is_there))
       ∙ ap (λ t. Some t) f.means
   | inr second ↦
       let f = first_found name_of type_in (length params) vars text found second in
       slice_get-map type_in (params ++ vars) found.0
-      ∙ ap (option_map type_in) (in_right params vars found.0 f.place f.element f.number f.is_there)
+      ∙ ap (option_map type_in) (in_second params vars f.place found.0 f.number ∙ f.is_there)
       ∙ ap (λ t. Some t) f.means
 ]

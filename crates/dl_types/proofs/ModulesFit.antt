@@ -29,8 +29,10 @@ use Rattle.dl_types.specs.Limits.{TypedIsChecked}
 use Rattle.dl_types.proofs.TreeLaws.{is_tree}
 use Rattle.dl_types.proofs.Checking.{bind_ok, unless_ok, where_ok, same_ok, each_all, each_map, each_length}
 use Rattle.dl_types.proofs.Found.{Found, first_found}
-use Rattle.dl_types.proofs.OperationsFit.{nothing_asked, all_at, some_of, type_refers, not_false, operation_fits}
+use Rattle.dl_types.proofs.OperationsFit.{nothing_asked, type_refers, operation_fits}
 use Rattle.dl_types.proofs.Rows.{row_push}
+use Rattle.dl_lemmas.proofs.Places.{all_at, mapped}
+use Rattle.std.proofs.lemmas.Bool.{not-true}
 
 -- the number of roots of a kind
 abbrev count_of : KindDecl → ℕ
@@ -101,7 +103,7 @@ module _ (kinds : List TreeKind) where
     | inr refers ↦
         let k : Found (λ (kind : TreeKind). kind.is_root) kinds 0 refers.kind = first_found (λ (kind : TreeKind). kind.name.text) (λ (kind : TreeKind). kind.is_root) 0 kinds word.text refers.kind refers.found in
         let same : refers.kind.0 ≡ k.place = omega (arith, k.number) in
-        subst IsFieldType refers.is (k.element, ap (slice_get kinds) same ∙ k.is_there, k.means ∙ not_false refers.kind.1 refers.taken)
+        subst IsFieldType refers.is (k.element, ap (slice_get kinds) same ∙ k.is_there, k.means ∙ not-true refers.kind.1 refers.taken)
   ]
 
   field_fits : (before : List FieldDecl) (field : TreeField) (d : FieldDecl) → Unit {0} → field_typed kinds before field ≡ Ok d → IsField d
@@ -130,7 +132,7 @@ module _ (kinds : List TreeKind) where
   node_there : (source : Module) → each (kind_typed kinds) [] kinds ≡ Ok source.kinds → (target : ℕ) → IsFieldType (Of target) → IsNodeKind source target
   node_there source e target is =
       let roots = each_map is_root tree_root (kind_typed kinds) same_root [] kinds source.kinds e in
-      let found = some_of is_root (slice_get source.kinds target) false (
+      let found = mapped is_root (slice_get source.kinds target) false (
       sym (slice_get-map is_root source.kinds target)
       ∙ ap (λ (l : List Bool). slice_get l target) roots
       ∙ slice_get-map tree_root kinds target

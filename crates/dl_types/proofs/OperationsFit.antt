@@ -29,20 +29,13 @@ use Rattle.dl_types.proofs.Checking.{bind_ok, unless_ok, where_ok, same_ok, each
 use Rattle.dl_types.proofs.Found.{Found, first_found, type_in}
 use Rattle.dl_types.proofs.Givens.{IsKindThere}
 use Rattle.dl_types.proofs.StatementsFit.{KindsAreThere, block_fits}
+use Rattle.dl_lemmas.proofs.Places.{all_at, mapped}
+use Rattle.std.proofs.lemmas.Bool.{not-true}
 
 -- nothing is asked of the elements
 pub nothing_asked : {A : Type 0} (xs : List A) → AllByRecursion (λ (x : A). Unit {0}) xs
 nothing_asked [] = tt
 nothing_asked (x ∷ xs) = (tt, nothing_asked xs)
-
--- what holds of all holds of the one at a place
-pub all_at : {A : Type 0} (P : A → Type 0) (xs : List A) (at : ℕ) (a : A) → All P xs → slice_get xs at ≡ Some a → P a
-all_at P xs at a all is = subst P (get_or_from_slice_get xs at a a is) (All-get_or P xs at a (slice_get_within xs at a is) all)
-
--- what a value was made of
-pub some_of : {A B : Type 0} (f : A → B) (o : Option A) (b : B) → option_map f o ≡ Some b → (a : A) × (o ≡ Some a) × (f a ≡ b)
-some_of f None b e = cc
-some_of f (Some a) b e = let same : f a ≡ b = cc in (a, refl, same)
 
 one_or_the_other : {A : Type 0} (test : Bool) (r q : Result A TypeFault) (a : A) → (if test then r else q) ≡ Ok a → (r ≡ Ok a) ⊎ (q ≡ Ok a)
 one_or_the_other true r q a e = inl e
@@ -68,10 +61,6 @@ type_refers kind_of place word t e = elim (one_or_the_other (bytes_eq word.text 
   | inr refers ↦ inr (kind_refers kind_of place word t (kind_of word.text) refl refers)
 ]
 
-pub not_false : (b : Bool) → not b ≡ true → b ≡ false
-not_false true e = sym e
-not_false false e = refl
-
 module _ (source : Module) where
   -- the kind that is found
   kind_found : (text : List ℕ) (found : ℕ × Bool) → kind_named 0 source.kinds text ≡ Some found → (d : KindDecl) × (slice_get source.kinds found.0 ≡ Some d) × (d.is_root ≡ found.1)
@@ -93,7 +82,7 @@ module _ (source : Module) where
     | inl number ↦ subst (IsVarType source) number tt
     | inr refers ↦
         let kind = kind_found word.text refers.kind refers.found in
-        subst (IsVarType source) refers.is (record { declared = kind.0; is_there = kind.1; is_node = kind.2 ∙ not_false refers.kind.1 refers.taken })
+        subst (IsVarType source) refers.is (record { declared = kind.0; is_there = kind.1; is_node = kind.2 ∙ not-true refers.kind.1 refers.taken })
   ]
 
   abbrev IsParam : LocalDecl → Type 0
@@ -132,7 +121,7 @@ module _ (source : Module) where
 
   kinds_there : (params vars : List LocalDecl) → All IsParam params → All IsVar vars → KindsAreThere params vars source
   kinds_there params vars all_params all_vars x kind is =
-      let local = some_of type_in (slice_get (params ++ vars) x) (Of kind) (sym (slice_get-map type_in (params ++ vars) x) ∙ is) in
+      let local = mapped type_in (slice_get (params ++ vars) x) (Of kind) (sym (slice_get-map type_in (params ++ vars) x) ∙ is) in
       let all = All-append IsThere params vars (All-weaker IsParam IsThere (λ d fits. param_there d.ty fits) params all_params) (All-weaker IsVar IsThere (λ d fits. var_there d.ty fits) vars all_vars) in
       subst TypeIsThere local.2 (all_at IsThere (params ++ vars) x local.0 all local.1)
 
