@@ -4,7 +4,7 @@ use Rattle.std.specs.Prelude.{All, Contains, slice_get, option_map}
 use Rattle.std.proofs.lemmas.Option.{slice_get-map}
 use Rattle.std.proofs.lemmas.Bool.{cases_lt}
 use Rattle.std.proofs.lemmas.List.Elements.{All-head}
-use Rattle.dl_closed.proofs.Histories.{all_at}
+use Rattle.dl_lemmas.proofs.Places.{all_at}
 use Rattle.dl_io.specs.Faults.{Rose}
 use Rattle.dl_io.specs.Source.{Source}
 use Rattle.dl_io.specs.Taken.{Taken}
