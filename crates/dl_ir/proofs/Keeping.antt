@@ -399,13 +399,14 @@ but_entered now name object filed absent room =
       rooms = record { within = omega (arith, longer, room); counts = filed.rooms.counts; loose = filed.rooms.loose; shared = filed.rooms.shared };
     }
 
+-- sixteen more fit in each count
+pub gain_fits : (c : Counted) (d : Bool) (kept : IsKept c d) (n : Name) (k : ℕ) → map.get c.counts.rows n ≡ Some k → k + 16 < 2 ^ 64
+gain_fits c d kept n k is = omega (arith, small_counts c d kept n k is)
+
 -- and its values are counted
 module _ (c : Counted) (d : Bool) (kept : IsKept c d) (name : Name) (object : Obj) (absent : map.get c.objects.rows name ≡ None) (few : length object.fields ≤ 16) where
   abbrev entered : Objects
   entered = map.insert c.objects.rows name object
-
-  pub gain_fits : (n : Name) (k : ℕ) → map.get c.counts.rows n ≡ Some k → k + length object.fields < 2 ^ 64
-  gain_fits n k is = omega (arith, small_counts c d kept n k is, few)
 
   pub kept_entered : (final : Counted) (now : FinMap name_cmp ℕ) (there : Bool) → final.objects ≡ record c.objects { rows = entered } → IsFiled final → Gains c.counts.rows now object.fields
       → final.counts.rows ≡ map.insert now name (refs c.objects.rows name + count_by (refers_to name) object.fields) → (there ≡ true → AreThere c.objects.rows object.fields) → IsKept final (d || not there)

@@ -1,3 +1,4 @@
+mod CellWrites
 mod Edits
 mod SortedEntries
 mod Falling

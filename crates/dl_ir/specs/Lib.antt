@@ -1,4 +1,5 @@
 pub mod CallForms
+pub mod Cells
 pub mod Census
 pub mod Checked
 pub mod Codes

@@ -14,7 +14,7 @@ ghost use Rattle.dl_ir.specs.declared.rows.Row.{Row};
 use crate::iterators::HeapIter;
 use crate::marks::Marks;
 use crate::names::{Name, Value};
-use crate::objects::Obj;
+use crate::objects::{Fields, Obj};
 use crate::rows::Row;
 use crate::tables::Table;
 use std::alloc::{AllocError, Global};
@@ -209,31 +209,32 @@ impl Census {
     }
 
     /// Counts the values that an object's fields hold now. Answers whether all that they refer to is there.
-    pub fn gain_all(&mut self, fields: &[Value]) -> bool
+    pub fn gain_all(&mut self, fields: &Fields) -> bool
         requires filed { IsFiled self.old }
-        requires few { (name : Name) (count : ℕ) → map.get self.old.counts.rows name ≡ Some count → count + length fields.now < 2 ^ 64 }
+        requires few { (name : Name) (count : ℕ) → map.get self.old.counts.rows name ≡ Some count → count + 16 < 2 ^ 64 }
         ensures filed { IsFiled self.new }
+        ensures sixteen { length fields.now ≤ 16 }
         ensures counts { Gains self.old.counts.rows self.new.counts.rows fields.now }
         ensures objects { self.new.objects ≡ self.old.objects }
         ensures there { result ≡ true → AreThere self.old.objects.rows fields.now }
     {
         let mut all = true;
-        for value in fields {
-            let there = self.gain(*value);
+        for value in fields.iter() {
+            let there = self.gain(value);
             all = all && there;
         }
         all
     }
 
     /// Counts the values no more that an object's fields have held.
-    pub fn lose_all(&mut self, fields: &[Value])
+    pub fn lose_all(&mut self, fields: &Fields)
         requires filed { IsFiled self.old }
         ensures filed { IsFiled self.new }
         ensures counts { Loses self.old.counts.rows self.new.counts.rows fields.now }
         ensures objects { self.new.objects ≡ self.old.objects }
     {
-        for value in fields {
-            self.lose(*value);
+        for value in fields.iter() {
+            self.lose(value);
         }
     }
 

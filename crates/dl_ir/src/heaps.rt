@@ -16,7 +16,7 @@ use crate::census::Census;
 use crate::iterators::HeapIter;
 use crate::modules::{KindDecl, Module};
 use crate::names::{Name, Value};
-use crate::objects::Obj;
+use crate::objects::{Fields, Obj};
 use std::alloc::{AllocError, Global};
 use std::marker::Model;
 
@@ -131,8 +131,8 @@ impl Heap {
         ensures { self.new ≡ record self.old { objects = map.insert self.old.objects name object } }
     {
         let refs = self.refs_to_absent(name);
-        let there = self.census.gain_all(object.fields.as_slice());
-        let own = count_in(object.fields.as_slice(), name);
+        let there = self.census.gain_all(&object.fields);
+        let own = count_in(&object.fields, name);
         self.census.enter(name, object, refs + own);
         self.may_dangle |= !there;
     }
@@ -142,7 +142,7 @@ impl Heap {
         ensures { self.new ≡ record self.old { objects = map.remove self.old.objects name } }
     {
         if let Some(row) = self.census.take(name) {
-            self.census.lose_all(row.object.fields.as_slice());
+            self.census.lose_all(&row.object.fields);
             self.may_dangle |= row.refs > 0;
         }
     }
@@ -236,19 +236,18 @@ fn fields_that_refer(census: &Census, name: Name) -> u64
 {
     let mut count = 0;
     for (_, object) in census.iter() {
-        count += count_in(object.fields.as_slice(), name);
+        count += count_in(&object.fields, name);
     }
     count
 }
 
 // The number of these fields that refer to this name.
-fn count_in(fields: &[Value], name: Name) -> u64
-    requires { length fields.now ≤ 16 }
+fn count_in(fields: &Fields, name: Name) -> u64
     ensures { result ≡ count_by (refers_to name) fields.now }
 {
     let mut count = 0;
-    for value in fields {
-        if refers_to(*value, name) {
+    for value in fields.iter() {
+        if refers_to(value, name) {
             count += 1;
         }
     }

@@ -1,8 +1,9 @@
-//! Walks through tables, and through heaps.
+//! Walks through tables, through heaps, and through the fields of an object.
 
 ghost use Rattle.std.specs.Prelude.{◌≡◌};
 
-use crate::names::Name;
+use crate::cells::{Cell, value_of};
+use crate::names::{Name, Value};
 use crate::objects::Obj;
 use crate::rows::Row;
 use std::marker::Model;
@@ -75,6 +76,43 @@ impl<'a> Iterator for HeapIter<'a> {
         match self.rows.next() {
             Some((name, row)) => Some((name, &row.object)),
             None => None,
+        }
+    }
+}
+
+/// The values of an object's fields, in order.
+#[derive(Drop)]
+pub struct FieldsIter<'a> {
+    pub(crate) left: &'a [Cell],
+}
+
+impl<'a> Model for FieldsIter<'a> {
+    ghost use Rattle.std.specs.Prelude.{List, map};
+    ghost use Rattle.dl_ir.specs.declared.names.Value.{Value as Held};
+    ghost use Rattle.dl_ir.specs.Cells.{value_in};
+
+    ghost Value = { List Held };
+
+    ghost view = { λ iter. map value_in iter.left.now };
+}
+
+impl<'a> Iterator for FieldsIter<'a> {
+    ghost use Rattle.std.specs.Prelude.{length};
+    ghost use Rattle.std.specs.Iterator.{YieldsFirstBy, at_most};
+
+    type Item = Value;
+
+    ghost next_gives = { YieldsFirstBy (λ value. value) (λ iter. iter) };
+
+    ghost remaining = { λ iter. at_most (length iter) };
+
+    fn next(&mut self) -> Option<Value> {
+        match self.left {
+            [first, rest @ ..] => {
+                self.left = rest;
+                Some(value_of(*first))
+            }
+            [] => None,
         }
     }
 }

@@ -4,6 +4,7 @@
 
 mod answers;
 mod calls;
+mod cells;
 mod census;
 mod closed;
 mod emits;
@@ -26,7 +27,7 @@ pub use closed::Closed;
 pub use emits::Emits;
 pub use expressions::{Cond, Expr, Op, RefSide, Rel};
 pub use heaps::Heap;
-pub use iterators::{HeapIter, TableIter};
+pub use iterators::{FieldsIter, HeapIter, TableIter};
 pub use modules::{FieldDecl, KindDecl, LocalDecl, Module, OpDecl, Text, Ty};
 pub use moves::Move;
 pub use names::{Name, Value};

@@ -1,8 +1,11 @@
 //! Objects and their fields.
 
-ghost use Rattle.std.specs.Prelude.{◌≡◌, [], ◌∷◌, ◌++◌, ◌<◌, ◌≤◌, length, slice_get, slice_set, ◌↔◌, IsTrue};
+ghost use Rattle.std.specs.Prelude.{◌≡◌, [], ◌∷◌, ◌++◌, ◌<◌, ◌≤◌, length, map, slice_get, slice_set, ◌↔◌, IsTrue};
+ghost use Rattle.dl_ir.specs.Cells.{value_in};
 ghost use Rattle.dl_ir.specs.Heap.{blank, blank_fields, blank_object};
 
+use crate::cells::{Cell, cell_of, value_of};
+use crate::iterators::FieldsIter;
 use crate::modules::{FieldDecl, KindDecl, Ty};
 use crate::names::Value;
 use std::marker::Model;
@@ -12,20 +15,21 @@ use std::marker::Model;
 pub struct Fields {
     // Before the values, so that it lies beside the first of them in memory.
     len: usize,
-    cells: [Value; 16],
+    cells: [Cell; 16],
 }
 
 impl Model for Fields {
-    ghost use Rattle.std.specs.Prelude.{List, take, ◌≤◌};
+    ghost use Rattle.std.specs.Prelude.{List, map, take, ◌≤◌};
     ghost use Rattle.std.specs.Coded.{coded_list};
     ghost use Rattle.dl_ir.specs.declared.names.Value.{Value as Held};
+    ghost use Rattle.dl_ir.specs.Cells.{value_in};
     ghost use Rattle.dl_ir.specs.Values.{coded_value};
 
     ghost Value = { List Held };
 
     ghost coded = { coded_list coded_value };
 
-    ghost view = { λ a. take a.len a.cells };
+    ghost view = { λ a. map value_in (take a.len a.cells) };
 
     ghost invariant = { λ a. a.len ≤ 16 };
 }
@@ -36,7 +40,7 @@ impl Fields {
     {
         Fields {
             len: 0,
-            cells: [Value::Int(0); 16],
+            cells: [Cell::Int(0); 16],
         }
     }
 
@@ -58,7 +62,7 @@ impl Fields {
         ensures { self.new ≡ self.old ++ value ∷ [] }
     {
         let at = self.len;
-        self.cells[at] = value;
+        self.cells[at] = cell_of(value);
         self.len = at + 1;
     }
 
@@ -67,7 +71,7 @@ impl Fields {
         ensures { result ≡ slice_get self.now at }
     {
         if at < self.len {
-            Some(self.cells[at])
+            Some(value_of(self.cells[at]))
         } else {
             None
         }
@@ -78,24 +82,33 @@ impl Fields {
         ensures { self.new ≡ slice_set self.old at value }
     {
         if at < self.len {
-            self.cells[at] = value;
+            self.cells[at] = cell_of(value);
         }
     }
 
     pub fn len(&self) -> usize
         ensures { result ≡ length self.now }
     {
-        self.as_slice().len()
+        self.held().len()
     }
 
     pub fn is_empty(&self) -> bool
         ensures { IsTrue result ↔ (self.now ≡ []) }
     {
-        self.as_slice().is_empty()
+        self.held().is_empty()
     }
 
-    pub fn as_slice(&self) -> &[Value]
-        ensures value { result.now ≡ self.now }
+    /// The values, in order.
+    pub fn iter(&self) -> FieldsIter<'_>
+        ensures value { result ≡ self.now }
+        ensures few { length result ≤ 16 }
+    {
+        FieldsIter { left: self.held() }
+    }
+
+    // The cells that hold a value.
+    fn held(&self) -> &[Cell]
+        ensures value { map value_in result.now ≡ self.now }
         ensures few { length result.now ≤ 16 }
     {
         &self.cells[..self.len]

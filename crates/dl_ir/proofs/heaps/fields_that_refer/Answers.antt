@@ -7,5 +7,4 @@ use Rattle.dl_ir.proofs.heaps.fields_that_refer.Goals as goal
 pub overflow_add-count : goal.overflow_add-count
 overflow_add-count c =
     let here = ap (sum_by (in_object c.args.name)) c.in-Some.ensures.steps ∙ sum_by-cons (in_object c.args.name) (c.in-Some.field-0-0, c.in-Some.object.now) c.next.new.self in
-    let counted = rw c.as_slice.ensures.value at c.count_in-count.ensures in
-    omega (arith, here, counted, c.loop-object.invariant, refs-few c.args.census.now.objects.rows (2 ^ 48) c.args.name c.requires.fields c.requires.few)
+    omega (arith, here, c.count_in-count.ensures, c.loop-object.invariant, refs-few c.args.census.now.objects.rows (2 ^ 48) c.args.name c.requires.fields c.requires.few)

@@ -7,7 +7,7 @@ invariant_of-self c =
     rw (c.self.invariant.counted c.args.name c.in-Some.row.refs (sym c.in-Some.ensures.refs)) (
     kept_taken c.self.inside.census c.self.inside.may_dangle c.self.invariant c.args.name c.lose_all.new.self c.in-Some.row.object c.take.new.self.counts.rows
     c.in-Some.ensures.taken (rw (c.lose_all.ensures.objects, c.in-Some.ensures.objects) refl) c.lose_all.ensures.filed c.in-Some.ensures.counts
-    (rw c.as_slice.ensures.value at c.lose_all.ensures.counts))
+    c.lose_all.ensures.counts)
 
 pub invariant_of-self-in_default : goal.invariant_of-self-in_default
 invariant_of-self-in_default c =
