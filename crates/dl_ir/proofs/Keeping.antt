@@ -73,10 +73,10 @@ field_counted n fields at old new is =
     let there = ap one (get_or_from_slice_get fields at old old is) in
     omega (arith, written, there, sum_by-cons one old [], sum_by-cons one new [])
 
-some_none : {X : Type 0} {x : X} → Some x ≡ None → ⊥
+pub some_none : {X : Type 0} {x : X} → Some x ≡ None → ⊥
 some_none is = cc
 
-true_false : true ≡ false → ⊥
+pub true_false : true ≡ false → ⊥
 true_false is = cc
 
 pub has_not : {X : Type 0} (o : Option X) → is_some o ≡ false → o ≡ None
@@ -87,11 +87,11 @@ mapped : (f : ℕ → ℕ) (o : Option ℕ) (c : ℕ) → option_map f o ≡ Som
 mapped f None c is = cc
 mapped f (Some x) c is = (x, refl, cc)
 
-either : (a b : Bool) → (a || b) ≡ false → (a ≡ false) × (b ≡ false)
+pub either : (a b : Bool) → (a || b) ≡ false → (a ≡ false) × (b ≡ false)
 either true b is = cc
 either false b is = (refl, is)
 
-some_same : {X : Type 0} {x y : X} → Some x ≡ Some y → x ≡ y
+pub some_same : {X : Type 0} {x y : X} → Some x ≡ Some y → x ≡ y
 some_same is = cc
 
 not_not : (b : Bool) → not b ≡ false → b ≡ true

@@ -12,6 +12,7 @@ pub mod NameOrder
 mod Padding
 mod Present
 mod StartHeap
+mod Seals
 mod Starts
 mod Search
 pub mod Subsets

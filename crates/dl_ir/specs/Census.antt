@@ -85,3 +85,12 @@ pub record IsKept (census : Counted) (may_dangle : Bool) : Type 0 where
   pub few_fields : HasFewFields census.objects.rows
   pub dangling : may_dangle ≡ false → (name : Name) → map.get census.objects.rows name ≡ None → refs census.objects.rows name ≡ 0
   pub small : census.objects.room ≤ 2 ^ 48
+
+-- No object is sealed.
+abbrev pub NoneIsSealed : Objects → Type 0
+NoneIsSealed objects = (name : Name) (object : Obj) → map.get objects name ≡ Some object → object.sealed ≡ false
+
+-- What a heap keeps of its objects is true, and unless one may be sealed, none is.
+pub record IsKnown (census : Counted) (may_dangle has_sealed : Bool) : Type 0 where
+  pub kept : IsKept census may_dangle
+  pub seals : has_sealed ≡ false → NoneIsSealed census.objects.rows

@@ -1,12 +1,13 @@
 //! The heap: objects under their names, with what settling has to know of them at hand.
 
-ghost use Rattle.std.specs.Prelude.{◌≡◌, ℕ, [], ◌∷◌, ◌+◌, ◌^◌, ◌<◌, ◌≤◌, ◌↔◌, IsTrue, IfOk, OnOk, Some, length, slice_get, count_by, None, if◌then◌else◌};
+ghost use Rattle.std.specs.Prelude.{◌≡◌, ℕ, false, [], ◌∷◌, ◌+◌, ◌^◌, ◌<◌, ◌≤◌, ◌↔◌, IsTrue, IfOk, OnOk, Some, length, slice_get, count_by, None, if◌then◌else◌};
 ghost use Rattle.std.specs.Option.{option_copied};
 ghost use Rattle.std.specs.List.{AllByRecursion};
 ghost use Rattle.std.specs.FinMap as map;
 ghost use Rattle.dl_ir.specs.Heap.{Objects, hidden_count, with_field, blank_object, roots_from, roots_of, start_objects, StandInRow, HasStart, IsHeapOf};
 ghost use Rattle.dl_ir.specs.Census.{HasFewFields};
 ghost use Rattle.dl_ir.specs.References.{refs, refers_to, is_loose, is_shared, first_name, with_seal};
+ghost use Rattle.dl_ir.specs.Meaning.{is_sealed};
 ghost use Rattle.dl_ir.specs.Rows.{added};
 ghost use Rattle.dl_ir.specs.declared.modules.KindDecl.{KindDecl};
 ghost use Rattle.dl_ir.specs.declared.names.Name.{Name};
@@ -28,7 +29,10 @@ const MOST_OBJECTS: usize = 1 << 48;
 #[derive(Drop)]
 pub struct Heap {
     census: Census,
+    // Whether a field may refer to an object that is not there.
     may_dangle: bool,
+    // Whether an object may be sealed.
+    has_sealed: bool,
 }
 
 impl Model for Heap {
@@ -39,11 +43,11 @@ impl Model for Heap {
 
     ghost coded = { coded_view };
 
-    ghost use Rattle.dl_ir.specs.Census.{IsKept};
+    ghost use Rattle.dl_ir.specs.Census.{IsKnown};
 
     ghost view = { λ h. record { objects = h.census.objects.rows; room = h.census.objects.room } };
 
-    ghost invariant = { λ h. IsKept h.census h.may_dangle };
+    ghost invariant = { λ h. IsKnown h.census h.may_dangle h.has_sealed };
 }
 
 impl Heap {
@@ -57,6 +61,7 @@ impl Heap {
         Ok(Heap {
             census: Census::new(alloc, room)?,
             may_dangle: false,
+            has_sealed: false,
         })
     }
 
@@ -77,6 +82,26 @@ impl Heap {
         ensures { option_copied result ≡ map.get self.now.objects name }
     {
         self.census.get(name)
+    }
+
+    /// Whether the object with this name is sealed. It is not looked up where no object may be.
+    pub fn is_sealed(&self, name: Name) -> bool
+        ensures { result ≡ is_sealed (map.get self.now.objects name) }
+    {
+        if !self.has_sealed {
+            return false;
+        }
+        match self.census.get(name) {
+            Some(object) => object.sealed,
+            None => false,
+        }
+    }
+
+    /// Whether an object may be sealed. Where it answers no, none is.
+    pub fn may_have_sealed(&self) -> bool
+        ensures { result ≡ false → (name : Name) → is_sealed (map.get self.now.objects name) ≡ false }
+    {
+        self.has_sealed
     }
 
     /// The number of fields that refer to the object of this name. It is looked up, and counted only where there is
@@ -133,6 +158,7 @@ impl Heap {
         let refs = self.refs_to_absent(name);
         let there = self.census.gain_all(&object.fields);
         let own = count_in(&object.fields, name);
+        self.has_sealed |= object.sealed;
         self.census.enter(name, object, refs + own);
         self.may_dangle |= !there;
     }
@@ -152,6 +178,7 @@ impl Heap {
         ensures { self.new ≡ record self.old { objects = with_seal self.old.objects name } }
     {
         self.census.seal(name);
+        self.has_sealed = true;
     }
 
     /// The least name of a hidden unsealed object to which no field refers, if there is one.
