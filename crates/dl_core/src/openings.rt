@@ -43,8 +43,8 @@ pub fn copied(fields: &Fields) -> Fields
     ensures { result ≡ fields.now }
 {
     let mut copy = Fields::new();
-    for value in fields.as_slice() {
-        copy.push(*value);
+    for value in fields.iter() {
+        copy.push(value);
     }
     copy
 }

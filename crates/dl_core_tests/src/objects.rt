@@ -1,7 +1,7 @@
 //! What heaps have, as tables write it.
 
 use crate::told::{Named, name};
-use dl_ir::{Heap, Value};
+use dl_ir::{Fields, Heap, Value};
 
 /// What a field holds.
 #[derive(Clone, Copy)]
@@ -23,12 +23,12 @@ fn value(held: Held) -> Value {
     }
 }
 
-fn has_fields(fields: &[Value], helds: &[Held]) -> bool {
+fn has_fields(fields: &Fields, helds: &[Held]) -> bool {
     if fields.len() != helds.len() {
         return false;
     }
     for (field, held) in fields.iter().zip(helds) {
-        if *field != value(*held) {
+        if field != value(*held) {
             return false;
         }
     }
@@ -42,8 +42,7 @@ pub fn has_things(heap: &Heap, things: &[Thing]) -> bool {
     }
     for (named, sealed, helds) in things {
         match heap.get(name(*named)) {
-            Some(object)
-                if object.sealed == *sealed && has_fields(object.fields.as_slice(), helds) => {}
+            Some(object) if object.sealed == *sealed && has_fields(&object.fields, helds) => {}
             _ => return false,
         }
     }

@@ -23,8 +23,8 @@ fn copy_of(object: &Obj) -> Obj
     ensures { result ≡ object.now }
 {
     let mut fields = Fields::new();
-    for value in object.fields.as_slice() {
-        fields.push(*value);
+    for value in object.fields.iter() {
+        fields.push(value);
     }
     Obj {
         kind: object.kind,

@@ -9,7 +9,7 @@ ghost use Rattle.dl_shape.specs.References.{refs, IsForest};
 ghost use Rattle.dl_shape.specs.Settling.{is_open, is_shared};
 ghost use Rattle.dl_shape.specs.Forests.{names_root, stands_in_forest};
 
-use dl_ir::{Heap, Name, Obj, Value};
+use dl_ir::{Fields, Heap, Name, Obj, Value};
 
 /// The number of fields of the heap that refer to the object of this name. The heap's objects have together at
 /// most 4,294,967,295 fields.
@@ -47,15 +47,15 @@ pub fn is_forest(heap: &Heap) -> bool
 fn stands_in_forest(heap: &Heap, name: Name, object: &Obj) -> bool
     ensures { result ≡ stands_in_forest heap.now.objects (name, object.now) }
 {
-    !refers_to_root(object.fields.as_slice()) && !is_shared(heap, name, object)
+    !refers_to_root(&object.fields) && !is_shared(heap, name, object)
 }
 
 // Whether one of these fields refers to a root.
-fn refers_to_root(fields: &[Value]) -> bool
+fn refers_to_root(fields: &Fields) -> bool
     ensures { result ≡ list_any names_root fields.now }
 {
-    for value in fields {
-        if names_root(*value) {
+    for value in fields.iter() {
+        if names_root(value) {
             return true;
         }
     }
