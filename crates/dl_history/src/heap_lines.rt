@@ -8,7 +8,7 @@ ghost use Rattle.dl_text.specs.Writing.{Puts};
 ghost use Rattle.dl_history.specs.Report.{field_text, seal_text, object_text, object_line, heap_head, heap_part};
 
 use crate::pieces::{put_name, put_text, put_value};
-use dl_ir::{FieldDecl, Heap, KindDecl, Module, Name, Obj, Value};
+use dl_ir::{FieldDecl, Fields, Heap, KindDecl, Module, Name, Obj, Value};
 use dl_text::{Failed, Out, Sink};
 
 fn put_field<K: Sink>(
@@ -31,13 +31,16 @@ fn put_fields<K: Sink>(
     out: &mut Out,
     sink: &mut K,
     decls: &[FieldDecl],
-    values: &[Value],
+    values: &Fields,
 ) -> Result<(), Failed>
     requires { out.old.failed ≡ false }
     ensures { Puts (K.taken sink.old) out.old (flat_map field_text (zip decls.now values.now)) result (K.taken sink.new) out.new }
 {
-    'fields: for i in 0..decls.len().min(values.len()) {
-        put_field(out, sink, &decls[i], values[i])?;
+    'fields: for i in 0..decls.len() {
+        let Some(value) = values.get(i) else {
+            return Ok(());
+        };
+        put_field(out, sink, &decls[i], value)?;
     }
     Ok(())
 }
@@ -62,7 +65,7 @@ fn put_object_fields<K: Sink>(
     requires { out.old.failed ≡ false }
     ensures { Puts (K.taken sink.old) out.old (flat_map field_text (zip kind.now.fields object.now.fields)) result (K.taken sink.new) out.new }
 {
-    put_fields(out, sink, kind.fields.as_slice(), object.fields.as_slice())
+    put_fields(out, sink, kind.fields.as_slice(), &object.fields)
 }
 
 fn put_object_of<K: Sink>(

@@ -17,20 +17,25 @@ use dl_text::{Failed, Out, Sink};
 use sqlite_items::{Items, at};
 
 // The answer of the entry at a place, where that entry has this index.
-fn answer_in(entries: &[Entry], place: u32, index: u32) -> Option<Answer>
-    ensures { result ≡ answer_with index (slice_get entries.now place) }
+fn answer_in(entries: &[Entry], place: u32, index: u32) -> Option<&Answer>
+    ensures { option_copied result ≡ answer_with index (slice_get entries.now place) }
 {
     let entry = entries.get(place as usize)?;
     if entry.index == index {
-        Some(entry.answer)
+        Some(&entry.answer)
     } else {
         None
     }
 }
 
 // The answer of the next of a caller's entries, where that entry has this index.
-fn next_answer(entries: &[Entry], places: &[u32], told: usize, index: u32) -> Option<Answer>
-    ensures { result ≡ answer_at entries.now index (slice_get places.now told) }
+fn next_answer<'a>(
+    entries: &'a [Entry],
+    places: &[u32],
+    told: usize,
+    index: u32,
+) -> Option<&'a Answer>
+    ensures { option_copied result ≡ answer_at entries.now index (slice_get places.now told) }
 {
     let place = places.get(told)?;
     answer_in(entries, *place, index)
@@ -59,11 +64,11 @@ fn refusals_of<'a>(refusals: &'a [Items<Refusal>], caller: u32) -> &'a [Refusal]
 fn put_told<K: Sink>(
     out: &mut Out,
     sink: &mut K,
-    answer: Option<Answer>,
+    answer: Option<&Answer>,
     refusal: Option<Refusal>,
 ) -> Result<(), Failed>
     requires { out.old.failed ≡ false }
-    ensures { Puts (K.taken sink.old) out.old (told_text answer refusal) result (K.taken sink.new) out.new }
+    ensures { Puts (K.taken sink.old) out.old (told_text (option_copied answer.entry) refusal) result (K.taken sink.new) out.new }
 {
     match (answer, refusal) {
         (Some(answer), _) => put_answer(out, sink, answer),
@@ -77,11 +82,11 @@ fn put_answer_line<K: Sink>(
     sink: &mut K,
     caller: u32,
     index: u32,
-    answer: Option<Answer>,
+    answer: Option<&Answer>,
     refusal: Option<Refusal>,
 ) -> Result<(), Failed>
     requires { out.old.failed ≡ false }
-    ensures { Puts (K.taken sink.old) out.old (line_text caller index (told_text answer refusal)) result (K.taken sink.new) out.new }
+    ensures { Puts (K.taken sink.old) out.old (line_text caller index (told_text (option_copied answer.entry) refusal)) result (K.taken sink.new) out.new }
 {
     put_dotted(out, sink, caller as u64, index)?;
     out.put(sink, b" ")?;

@@ -96,13 +96,13 @@ pub fn put_arguments<K: Sink>(out: &mut Out, sink: &mut K, arguments: &[i64]) ->
 }
 
 /// Puts an answer: how the operation ended, its breach, where there is one, and the numbers that it emitted.
-pub fn put_answer<K: Sink>(out: &mut Out, sink: &mut K, answer: Answer) -> Result<(), Failed>
+pub fn put_answer<K: Sink>(out: &mut Out, sink: &mut K, answer: &Answer) -> Result<(), Failed>
     requires { out.old.failed ≡ false }
-    ensures { Puts (K.taken sink.old) out.old (answer_text answer) result (K.taken sink.new) out.new }
+    ensures { Puts (K.taken sink.old) out.old (answer_text answer.now) result (K.taken sink.new) out.new }
 {
     put_end(out, sink, answer.end)?;
     put_breach(out, sink, answer.breach)?;
-    put_emitted(out, sink, answer.emitted)
+    put_emitted(out, sink, &answer.emitted)
 }
 
 fn put_end<K: Sink>(out: &mut Out, sink: &mut K, end: End) -> Result<(), Failed>
@@ -148,9 +148,9 @@ fn put_breach<K: Sink>(out: &mut Out, sink: &mut K, breach: Option<Name>) -> Res
     }
 }
 
-fn put_emitted<K: Sink>(out: &mut Out, sink: &mut K, emitted: Emits) -> Result<(), Failed>
+fn put_emitted<K: Sink>(out: &mut Out, sink: &mut K, emitted: &Emits) -> Result<(), Failed>
     requires { out.old.failed ≡ false }
-    ensures { Puts (K.taken sink.old) out.old (emitted_text emitted) result (K.taken sink.new) out.new }
+    ensures { Puts (K.taken sink.old) out.old (emitted_text emitted.now) result (K.taken sink.new) out.new }
 {
     if emitted.is_empty() {
         return out.put(sink, b"");

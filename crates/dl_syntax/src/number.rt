@@ -60,11 +60,11 @@ fn number(word: &[u8]) -> Option<i64>
     }
 }
 
-/// The numbers that the words say, where each of them says one.
-pub fn numbers(alloc: Global, bytes: &[u8]) -> Result<Option<Items<i64>>, AllocError>
+/// The numbers that the words say, where each of them says one. Memory is taken at once for `count` of them.
+pub fn numbers(alloc: Global, count: usize, bytes: &[u8]) -> Result<Option<Items<i64>>, AllocError>
     ensures { IfOk result (λ found. found ≡ numbers_of (words_of bytes.now)) }
 {
-    let mut found = Items::new(alloc);
+    let mut found = Items::from_vec(Vec::with_capacity(alloc, count)?);
     let mut rest = bytes;
     while let Some((word, more)) = next_word(rest) {
         match number(word) {

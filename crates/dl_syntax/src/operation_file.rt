@@ -106,7 +106,7 @@ fn call_of_op(
     if count_words(words) != decl.params.len() {
         return Err(CallsFault::ArgCount { line });
     }
-    let Some(args) = numbers(alloc, words)? else {
+    let Some(args) = numbers(alloc, decl.params.len(), words)? else {
         return Err(CallsFault::NotNumber { line });
     };
     if !all_fit(source, decl.params.as_slice(), args.as_slice()) {

@@ -1,5 +1,5 @@
 //! The buffer through which a text is written to a sink.
-ghost use Rattle.std.specs.Prelude.{◌≡◌, ℕ, ◌+◌, ◌-◌, ◌≤◌, false, [], ◌++◌, length, is_ok, if◌then◌else◌};
+ghost use Rattle.std.specs.Prelude.{◌≡◌, ℕ, ◌+◌, ◌-◌, ◌<◌, ◌≤◌, false, [], ◌∷◌, ◌++◌, length, is_ok, if◌then◌else◌};
 ghost use Rattle.dl_text.specs.Writing.{nothing, broken, Buffered, Passes, Breaks, Puts};
 
 use dl_io::{Failed, Sink};
@@ -52,6 +52,14 @@ impl Out {
         requires { self.old.failed ≡ false }
         ensures { Puts (K.taken sink.old) self.old bytes.now result (K.taken sink.new) self.new }
     {
+        match bytes {
+            [] => return Ok(()),
+            [byte] if self.used < SIZE => {
+                self.hold_byte(*byte);
+                return Ok(());
+            }
+            _ => {}
+        }
         if bytes.len() <= SIZE - self.used {
             self.hold(bytes);
             return Ok(());
@@ -83,6 +91,16 @@ impl Out {
         let end = self.used + bytes.len();
         self.buffer[self.used..end].copy_from_slice(bytes);
         self.used = end;
+    }
+
+    // Puts a byte for which there is room, without the call that copies a slice.
+    fn hold_byte(&mut self, byte: u8)
+        requires { length self.old.bytes < 4096 }
+        ensures { self.new ≡ record self.old { bytes = self.old.bytes ++ byte ∷ [] } }
+    {
+        let at = self.used;
+        self.buffer[at] = byte;
+        self.used = at + 1;
     }
 
     /// Writes all that is buffered. After a fault nothing is buffered.

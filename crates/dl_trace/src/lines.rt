@@ -151,7 +151,7 @@ fn put_spaced_answer<K: Sink>(out: &mut Out, sink: &mut K, answer: Answer) -> Re
     ensures { Puts (K.taken sink.old) out.old (spaced_answer answer) result (K.taken sink.new) out.new }
 {
     out.put(sink, b" ")?;
-    put_answer(out, sink, answer)
+    put_answer(out, sink, &answer)
 }
 
 fn put_finish<K: Sink>(out: &mut Out, sink: &mut K, entry: Entry) -> Result<(), Failed>
