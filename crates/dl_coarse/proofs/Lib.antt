@@ -8,3 +8,4 @@ pub mod Gathering
 pub mod Stepping
 pub mod LoneTurn
 pub mod LoneSteps
+pub mod Sent

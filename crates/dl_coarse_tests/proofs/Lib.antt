@@ -1,4 +1,3 @@
 -- The lemmas of this crate.
 pub mod Serving
 pub mod Opening
-pub mod Sent

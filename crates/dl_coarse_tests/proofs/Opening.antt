@@ -9,7 +9,7 @@ use Rattle.dl_instr.specs.declared.code.Code.{Code}
 use Rattle.dl_instr.specs.Drops.{IsCodeOf}
 use Rattle.dl_core.specs.Closing.{AreFresh, AreIdle}
 use Rattle.dl_core.specs.Passes.{PassView, IsIdle, fresh_pass}
-use Rattle.dl_core.specs.Plans.{Plan, IsPlan, size_of, source_of}
+use Rattle.dl_core.specs.Plans.{Plan, IsPlan}
 use Rattle.dl_ir.specs.declared.calls.Call.{Call}
 use Rattle.dl_coarse_tests.specs.Meetings.{AreOpened, IsReadyFor, IsRested, MayMeet, plan_for, sizes_of}
 

@@ -4,6 +4,7 @@ use Rattle.std.specs.Prelude.{All, AllPairs, count_by, sum_by, slice_get, option
 use Rattle.std.specs.List.Sorted.{IsNonDecreasingBy}
 use Rattle.std.proofs.lemmas.Bool.{cases_lt}
 use Rattle.std.proofs.lemmas.Bool.Decides.{nat_tests}
+use Rattle.std.proofs.lemmas.Option.{same_Some, slice_get_within}
 use Rattle.std.proofs.lemmas.List.Elements.{All-append, All-head, All-nil, All-tail, All-weaker}
 use Rattle.std.proofs.lemmas.List.Sorted.{length_permutation}
 use Rattle.std.proofs.lemmas.List.Sums.{sum_by-cons, get_or-le-sum_by}
@@ -61,15 +62,12 @@ up_has f (suc n) i low high = elim (cases_lt n i) [
 over_has : (f : ℕ → ℕ → ℕ) (first : ℕ) (files : List (List Call)) (at i : ℕ) (calls : List Call) → slice_get files at ≡ Some calls → 0 < i → i ≤ length calls → f (first + at) i ≤ over f first files
 over_has f first [] at i calls there low high = absurd (cc)
 over_has f first (own ∷ rest) zero i calls there low high =
-    let same : own ≡ calls = one_some there in
+    let same : own ≡ calls = same_Some own calls there in
     let long : length own ≡ length calls = ap (λ (cs : List Call). length cs) same in
     let here = up_has (f first) (length own) i low (omega (arith, high, long)) in
     let number : f (first + 0) i ≡ f first i = ap (λ (c : ℕ). f c i) {x = first + 0} {y = first} (omega arith) in
     let more : over f first (own ∷ rest) ≡ up_to (f first) (length own) + over f (suc first) rest = refl in
     omega (arith, here, number, more)
-  where
-    one_some : {X : Type 0} {x y : X} → Some x ≡ Some y → x ≡ y
-    one_some e = cc
 over_has f first (own ∷ rest) (suc at) i calls there low high =
     let later = over_has f (suc first) rest at i calls there low high in
     let number : f (first + suc at) i ≡ f (suc first + at) i = ap (λ (c : ℕ). f c i) {x = first + suc at} {y = suc first + at} (omega arith) in
@@ -87,11 +85,6 @@ record IsOperation (files : List (List Call)) (caller index : ℕ) : Type 0 wher
   from_one : 0 < index
   to_last : index ≤ length calls
 
-within : {X : Type 0} (xs : List X) (i : ℕ) (x : X) → slice_get xs i ≡ Some x → i < length xs
-within [] i x there = absurd (cc)
-within (y ∷ ys) zero x there = omega arith
-within (y ∷ ys) (suc i) x there = let below = within ys i x there in omega (arith, below)
-
 is_operation : (files : List (List Call)) (caller index : ℕ) → 0 < one_if_there (call_at files caller index) → IsOperation files caller index
 is_operation files zero index some = absurd (omega (arith, some))
 is_operation files (suc at) zero some = absurd (omega (arith, some))
@@ -100,7 +93,7 @@ is_operation files (suc at) (suc i) some = by (slice_get files at) refl some
     inner : (calls : List Call) → slice_get files at ≡ Some calls → (o : Option Call) → slice_get calls i ≡ o → 0 < one_if_there o → IsOperation files (suc at) (suc i)
     inner calls there None at_call some = absurd (omega (arith, some))
     inner calls there (Some call) at_call some =
-        let below = within calls i call at_call in
+        let below = slice_get_within calls i call at_call in
         record { at = at; number = omega arith; calls = calls; there = there; from_one = omega arith; to_last = omega (arith, below) }
 
     by : (o : Option (List Call)) → slice_get files at ≡ o → 0 < one_if_there (option_and_then (λ (calls : List Call). slice_get calls i) o) → IsOperation files (suc at) (suc i)

@@ -1,5 +1,6 @@
 -- How a call ends, clause by clause.
 use Rattle.std.proofs.Common.{◌≡◌, ◌≢◌, ℕ, ◌+◌, ◌<◌, ◌≤◌, List, [], ◌⊎◌, inl, inr, Option, Some, None, refl, sym, ◌∙◌, subst, arith}
+use Rattle.std.proofs.lemmas.Option.{same_Some}
 use Rattle.dl_io.specs.Source.{Source}
 use Rattle.dl_io.specs.Taken.{Taken, Took}
 use Rattle.dl_history.specs.Histories.{Seen}
@@ -133,10 +134,6 @@ refused_long {new = new} file (Refuses.no_file tree source before at found sourc
 refused_long {new = new} file (Refuses.no_file tree source before at found source_file files is_file (NoFile.at_fault text told short is_fault within)) is more = within_long new file within is more
 refused_long {new = new} file (Refuses.no_memory e within) is more = within_long new file within is more
 
--- what is in two like texts is the same
-some_same : (a b : ℕ) → Some a ≡ Some b → a ≡ b
-some_same a b e = cc
-
 within_most : (new : Source) (file : ℕ) → IsWithin new → new.attached ≡ Some file → new.given ≤ limit_of file + 1
 within_most new file within is = let short = within file is in omega (arith, short)
 
@@ -148,7 +145,7 @@ read_most statuses.WriteFault g path old new file cause is = absurd cause
 read_most statuses.Usage g path old new file cause is = absurd cause
 read_most (statuses.ReadFault f) g path old new file cause is = within_most new file cause.2 is
 read_most (statuses.TooLong f) g path old new file cause is =
-    subst (λ n. new.given ≤ limit_of n + 1) (some_same g file (sym cause.1.attached ∙ is)) cause.1.at_most
+    subst (λ n. new.given ≤ limit_of n + 1) (same_Some g file (sym cause.1.attached ∙ is)) cause.1.at_most
 read_most (statuses.ModuleFault line why) g path old new file cause is = absurd cause
 read_most (statuses.OpsFault f line why) g path old new file cause is = absurd cause
 read_most (statuses.HeapFault line why) g path old new file cause is = absurd cause

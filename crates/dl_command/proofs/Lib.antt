@@ -17,4 +17,3 @@ mod StepLemmas
 mod PromiseLemmas
 mod NumberLemmas
 mod WorkLemmas
-pub mod Sent

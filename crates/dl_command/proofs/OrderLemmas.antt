@@ -4,7 +4,7 @@ use Rattle.std.specs.Prelude.{All, Contains, slice_get, option_map}
 use Rattle.std.proofs.lemmas.Option.{slice_get-map}
 use Rattle.std.proofs.lemmas.Bool.{cases_lt}
 use Rattle.std.proofs.lemmas.List.Elements.{All-head}
-use Rattle.dl_lemmas.proofs.Places.{all_at}
+use Rattle.dl_lemmas.proofs.Places.{all_at, front_get}
 use Rattle.dl_io.specs.Faults.{Rose}
 use Rattle.dl_io.specs.Source.{Source}
 use Rattle.dl_io.specs.Taken.{Taken}
@@ -22,7 +22,7 @@ use Rattle.dl_command.specs.Texts.{AreFiles, Spells, Behind, behind_of, nothing_
 use Rattle.dl_command.specs.Told.{TellsFile, RefusesFile, CallsFor, EndsWith, EndsAsTold, IsInOrder}
 use Rattle.dl_command.specs.Wanted.{Wanted, wanted, numbers_of, paths_of}
 use Rattle.dl_command.specs.Words.{Text, Task}
-use Rattle.dl_command.proofs.ToldLemmas.{Untaken, module_untaken, file_untaken, module_refused, file_refused, module_not_taken, file_not_taken, told_source, told_named, found_named, file_at, get_take}
+use Rattle.dl_command.proofs.ToldLemmas.{Untaken, module_untaken, file_untaken, module_refused, file_refused, module_not_taken, file_not_taken, told_source, told_named, found_named, file_at}
 
 -- a file up to the one at this place could not be read, or there was no memory
 before_it : {numbers : List ℕ} {place before number : ℕ} {path : Text} {old new : Source} {answer status : Status} → before ≤ place → slice_get numbers before ≡ Some number
@@ -54,7 +54,7 @@ number_at files at file is = slice_get-map (λ (f : Wanted). f.number) files at 
 earlier : {source : Module} {old new : Source} {files : List Wanted} {at stop : ℕ} {answer status : Status} → HasNames source → stop < at → Called source old files at answer →
     Stopped source old new files stop status → EndsWith (numbers files) (at + 1) answer status
 earlier {source = source} {old = old} {files = files} {at = at} {stop = stop} named below called stopped =
-    let tells = all_at (TellsFile source old) (take at files) stop stopped.file called.tells (get_take files at stop stopped.file below stopped.is_file) in
+    let tells = all_at (TellsFile source old) (take at files) stop stopped.file called.tells (front_get files at stop below ∙ stopped.is_file) in
     before_it {before = suc stop} (omega (arith, below)) (number_at files stop stopped.file stopped.is_file) (file_untaken named tells stopped.cause)
 
 same_place : {source : Module} {old new : Source} {files : List Wanted} {at stop : ℕ} {answer status : Status} → HasNames source → stop ≡ at → Called source old files at answer →
@@ -70,7 +70,7 @@ same_place {source = source} {old = old} {new = new} {files = files} {at = at} {
 later : {P : Type 0} {source : Module} {old new : Source} {files : List Wanted} {at stop : ℕ} {answer status : Status} → HasNames source → at < stop → Called source old files at answer →
     Stopped source old new files stop status → P
 later {source = source} {old = old} {files = files} {at = at} {stop = stop} named below called stopped =
-    let found = file_at source old (take stop files) nothing_behind stopped.before at called.file stopped.are (get_take files stop at called.file below called.is_file) in
+    let found = file_at source old (take stop files) nothing_behind stopped.before at called.file stopped.are (front_get files stop at below ∙ called.is_file) in
     file_not_taken named called.refused found.is
 
 refused_at : {source : Module} {old new : Source} {files : List Wanted} {at stop : ℕ} {answer status : Status} → HasNames source → Called source old files at answer →

@@ -1,7 +1,8 @@
 -- Lists of one element, refusals of one caller, and the history of no operation.
-use Rattle.std.proofs.Common.{◌≡◌, ◌∙◌, zero, suc, Some, List, [], ◌∷◌, length, get_or, sym, ap, subst, arith, inr}
+use Rattle.std.proofs.Common.{◌≡◌, ◌∙◌, zero, suc, List, [], ◌∷◌, length, get_or, sym, ap, subst, arith, inr}
 use Rattle.std.specs.Prelude.{All}
 use Rattle.std.specs.List.Sorted.{IsNonDecreasingBy}
+use Rattle.std.proofs.lemmas.Option.{same_Some}
 use Rattle.dl_ir.specs.declared.answers.Refusal.{Refusal}
 use Rattle.dl_ir.specs.declared.answers.Entry.{Entry}
 use Rattle.dl_ir.specs.declared.moves.Move.{Move}
@@ -16,10 +17,7 @@ one_element (y ∷ z ∷ rest) x one is = absurd (omega arith)
 
 -- one list of the refusals of caller 1, in order of index
 pub one_by_caller : (rs : List Refusal) → All (λ (r : Refusal). r.caller ≡ 1) rs → IsNonDecreasingBy (λ (r : Refusal). r.index) rs → AreByCaller (rs ∷ [])
-one_by_caller rs of_it up zero list there = subst (λ l. All (λ (r : Refusal). r.caller ≡ 1) l × IsNonDecreasingBy (λ (r : Refusal). r.index) l) (same there) (of_it, up)
-  where
-    same : {A : Type 0} {x y : A} → Some x ≡ Some y → x ≡ y
-    same there = cc
+one_by_caller rs of_it up zero list there = subst (λ l. All (λ (r : Refusal). r.caller ≡ 1) l × IsNonDecreasingBy (λ (r : Refusal). r.index) l) (same_Some rs list there) (of_it, up)
 one_by_caller rs of_it up (suc at) list there = absurd (cc)
 
 -- the refusals of caller 1, in order of index, stand by caller and index

@@ -4,6 +4,7 @@ use Rattle.std.specs.Prelude.{All, slice_get}
 use Rattle.std.specs.List.{flat_map}
 use Rattle.std.specs.List.Sorted.{IsNonDecreasingBy}
 use Rattle.std.proofs.lemmas.Bool.{cases_lt}
+use Rattle.std.proofs.lemmas.Option.{same_Some}
 use Rattle.std.proofs.lemmas.List.{get_or_past, length-map}
 use Rattle.std.proofs.lemmas.List.Elements.{All-nil}
 use Rattle.dl_io.specs.Taken.{Taken}
@@ -45,13 +46,10 @@ pieces : {Y : Type 0} (g : ℕ → List Y) (ns : List ℕ) → all_of (map g ns)
 pieces g [] = refl
 pieces g (n ∷ ns) = ap (λ ys. g n ++ ys) (pieces g ns)
 
-same_some : {Y : Type 0} {x y : Y} → Some x ≡ Some y → x ≡ y
-same_some e = cc
-
 -- what is made of the number that stands at a place
 numbered : {Y : Type 0} (g : ℕ → Y) (first count at : ℕ) (y : Y) → slice_get (map g (numbers_from first count)) at ≡ Some y → g (first + at) ≡ y
 numbered g first zero at y there = absurd (cc)
-numbered g first (suc more) zero y there = let here : first + 0 ≡ first = omega arith in ap g here ∙ same_some there
+numbered g first (suc more) zero y there = let here : first + 0 ≡ first = omega arith in ap g here ∙ same_Some (g first) y there
 numbered g first (suc more) (suc at) y there = let later : first + suc at ≡ first + 1 + at = omega arith in ap g later ∙ numbered g (first + 1) more at y there
 
 module _ (plan : Plan) (core : Core) (all : List (List Call)) (closed : Closed) (over : IsRunOver plan core all)

@@ -1,5 +1,5 @@
 -- What is told of a file, and what a call finds there.
-use Rattle.std.proofs.Common.{◌≡◌, ℕ, zero, suc, ◌<◌, ◌≤◌, List, [], ◌∷◌, Option, Some, IfSome, length, take, refl, sym, ◌∙◌, ap, subst, arith}
+use Rattle.std.proofs.Common.{◌≡◌, ℕ, zero, suc, ◌<◌, ◌≤◌, List, [], ◌∷◌, Option, Some, IfSome, length, refl, sym, ◌∙◌, ap, subst, arith}
 use Rattle.std.specs.Prelude.{slice_get}
 use Rattle.dl_io.specs.Source.{Source, Tells}
 use Rattle.dl_ir.specs.declared.modules.Module.{Module}
@@ -148,10 +148,3 @@ file_at source files [] before after at file are is = cc
 file_at source files (first ∷ wanted) before after zero file are is =
     let same : first ≡ file = cc in record { content = are.0; is = subst (λ f. IsFile source files f are.0) same are.1 }
 file_at source files (first ∷ wanted) before after (suc at) file are is = file_at source files wanted (with_content before are.0) after at file are.2 is
-
--- what stands at a place below n stands among the first n
-pub get_take : {A : Type 0} (xs : List A) (n at : ℕ) (x : A) → at < n → slice_get xs at ≡ Some x → slice_get (take n xs) at ≡ Some x
-get_take xs zero at x below is = absurd (omega arith)
-get_take [] (suc n) at x below is = cc
-get_take (y ∷ xs) (suc n) zero x below is = is
-get_take (y ∷ xs) (suc n) (suc at) x below is = get_take xs n at x (omega arith) is

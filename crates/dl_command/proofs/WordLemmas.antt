@@ -4,7 +4,7 @@ use Rattle.std.specs.Prelude.{codes, bytes_eq, is_some, option_map, option_and_t
 use Rattle.std.specs.List.{All, slice_index_or}
 use Rattle.std.specs.Borrow.{Bor}
 use Rattle.std.specs.Str.Parse.{ParsesUnsigned, digits_value, without_leading_plus}
-use Rattle.std.proofs.lemmas.Bool.{cases_lt, eqb-true, ltb-false}
+use Rattle.std.proofs.lemmas.Bool.{cases_lt, eqb-true, ltb-false, not-true}
 use Rattle.std.proofs.lemmas.List.{get_or-map, length-map}
 use Rattle.std.proofs.lemmas.List.Elements.{All-cons, All-nil, All-get_or}
 use Rattle.std.proofs.lemmas.Result.{IfOk-weaker}
@@ -127,11 +127,7 @@ module _ (line : Command) (m : ArgMatches) (shape : app_of line ≡ command_line
   plain : ((out-Command line).groups.items ≡ []) × ((out-Command line).has_globals ≡ false)
   plain =
       let all : (app_of line).top.is_plain ≡ true = ap (λ (a : App). a.top.is_plain) shape in
-      (empty_is _ (both _ _ all).0, no _ (both _ _ (both _ _ (both _ _ all).1).1).0)
-    where
-      no : (b : Bool) → not b ≡ true → b ≡ false
-      no false e = refl
-      no true e = absurd (cc)
+      (empty_is _ (both _ _ all).0, not-true _ (both _ _ (both _ _ (both _ _ all).1).1).0)
 
   no_groups : groups_of p.built ≡ []
   no_groups =

@@ -1,5 +1,5 @@
 -- Which words are a command, over what the library `clap` makes of them: the command line, and the table of commands.
-use Rattle.std.specs.Prelude.{◌≡◌, ℕ, ◌==◌, ◌-◌, ◌≤◌, ◌^◌, ◌&&◌, nat_lt, Bool, true, false, not, is_some, List, [], ◌∷◌, length, map, find, fold, pos, Option, Some, None, codes, bytes_eq, unwrap_or, if◌then◌else◌}
+use Rattle.std.specs.Prelude.{◌≡◌, ℕ, ◌==◌, ◌-◌, ◌≤◌, ◌^◌, ◌&&◌, nat_lt, true, false, not, is_some, List, [], ◌∷◌, length, map, find, fold, pos, Option, Some, None, codes, bytes_eq, unwrap_or, if◌then◌else◌}
 use Rattle.std.specs.Prelude.{option_map, option_and_then}
 use Rattle.std.specs.Str.Parse.{digits_value, without_leading_plus}
 use Rattle.clap.specs.ValueTests.{is_unsigned_in}

@@ -1,6 +1,6 @@
 //! Reading a file to its end, within its limit.
 
-ghost use Rattle.std.specs.Prelude.{◌≡◌, ◌<◌, ◌≤◌, ◌^◌, ◌+◌, ℕ, true, Some, IfOk, IfErr, IfSome, IsErrOf, IsOk, OnOk, OnErr, length};
+ghost use Rattle.std.specs.Prelude.{◌≡◌, ◌<◌, ◌≤◌, ◌^◌, ◌+◌, true, Some, IfOk, IfErr, IfSome, IsErrOf, IsOk, OnOk, OnErr, length};
 ghost use Rattle.dl_io.specs.Faults.{HasCause};
 ghost use Rattle.dl_io.specs.Source.{SameFiles, Gives, Tells, raised};
 ghost use Rattle.dl_command.specs.Reading.{StopCause, AfterReading, ReadCause, IsWithin};

@@ -3,6 +3,7 @@ use Rattle.std.proofs.Common.{◌≡◌, ℕ, zero, suc, ◌<◌, List, length, 
 use Rattle.std.specs.Option.{option_map}
 use Rattle.std.proofs.lemmas.List.{length-map}
 use Rattle.std.proofs.lemmas.Option.{slice_get-map, slice_get_within}
+use Rattle.dl_lemmas.proofs.Places.{one_at}
 use Rattle.dl_ir.specs.declared.modules.OpDecl.{OpDecl}
 use Rattle.dl_instr.specs.declared.steps.Step.{Step}
 use Rattle.dl_instr.specs.declared.steps.Step.TheVariants.{Read, Want, Set, Drop, Make, Eval, Write, Emit, Test, Jump, Give}
@@ -10,7 +11,7 @@ use Rattle.dl_instr.specs.Code.{op_code}
 use Rattle.dl_instr.specs.Drops.{IsWithDrops, front, moved}
 use Rattle.dl_instr.specs.Jumps.{JumpsLand, jump_of}
 use Rattle.dl_instr.specs.DropsLaws.{PlainIsCode}
-use Rattle.dl_instr.proofs.Rising.{front_below, some_at}
+use Rattle.dl_instr.proofs.Rising.{front_below}
 use Rattle.dl_instr.proofs.Moved.{jump_back}
 
 -- where each step stays at its place
@@ -62,7 +63,7 @@ module _ (op : OpDecl) (plain steps : List Step) (w : IsWithDrops op plain steps
       → (i : ℕ) × (t : ℕ) × (s : Step) × (slice_get plain i ≡ Some s) × (jump_of s ≡ Some t) × (t < length plain) × (front w.at t ≡ z) × (w.at i ≡ y)
   from_plain y z step there jumps = elim (w.added y (slice_get_within steps y step there)) [
     | inl (i, h, same) ↦
-        let s = some_at plain i h in
+        let s = one_at plain i h in
         let stands = w.kept i s.0 s.1 in
         let is : moved (front w.at) s.0 ≡ step = cc in
         let back = jump_back (front w.at) s.0 z (ap jump_of is ∙ jumps) in

@@ -2,13 +2,14 @@
 use Rattle.std.proofs.Common.{◌≡◌, ℕ, zero, suc, ◌+◌, ◌-◌, ◌<◌, ◌≤◌, List, length, sym, ap, subst, ◌∙◌, Some, arith, inl, inr, slice_get, add-one}
 use Rattle.std.proofs.lemmas.Bool.{cases_lt, cases_order}
 use Rattle.std.proofs.lemmas.Option.{slice_get_within}
+use Rattle.dl_lemmas.proofs.Places.{one_at}
 use Rattle.dl_ir.specs.declared.modules.OpDecl.{OpDecl}
 use Rattle.dl_instr.specs.declared.steps.Step.{Step}
 use Rattle.dl_instr.specs.declared.steps.Step.TheVariants.{Drop}
 use Rattle.dl_instr.specs.Drops.{IsWithDrops, front, moved}
 use Rattle.dl_instr.specs.Jumps.{JumpsLand}
 use Rattle.dl_instr.specs.Matching.{IsTarget, Fits, IsNearest, IsLate, opened}
-use Rattle.dl_instr.proofs.Rising.{not_falling, taken_once, not_behind, front_next, some_at}
+use Rattle.dl_instr.proofs.Rising.{not_falling, taken_once, not_behind, front_next}
 use Rattle.dl_instr.proofs.Moved.{jump_on, moved_twice, drop_is}
 use Rattle.dl_instr.proofs.CodesOf.{from_plain}
 
@@ -19,7 +20,7 @@ pub record IsDropAt (steps : List Step) (y : ℕ) : Type 0 where
 
 module _ (op : OpDecl) (plain steps : List Step) (w : IsWithDrops op plain steps) (lands : JumpsLand plain) where
   pub inside : (i : ℕ) → i < length plain → w.at i < length steps
-  inside i h = let s = some_at plain i h in slice_get_within steps (w.at i) (moved (front w.at) s.0) (w.kept i s.0 s.1)
+  inside i h = let s = one_at plain i h in slice_get_within steps (w.at i) (moved (front w.at) s.0) (w.kept i s.0 s.1)
 
   -- a place that jumps go to is in front of a plain step that jumps go to
   pub in_front : (z : ℕ) → IsTarget steps z → (t : ℕ) × (t < length plain) × IsTarget plain t × (front w.at t ≡ z)
@@ -34,7 +35,7 @@ module _ (op : OpDecl) (plain steps : List Step) (w : IsWithDrops op plain steps
   -- each plain step may stand where it stands
   pub fits_here : (i : ℕ) → i < length plain → Fits plain steps i (w.at i)
   fits_here i h =
-      let s = some_at plain i h in
+      let s = one_at plain i h in
       record {
         step = s.0;
         other = moved (front w.at) s.0;

@@ -1,6 +1,6 @@
 -- Paths that are followed to their ends.
 use Rattle.std.proofs.Common.{◌≡◌, ◌==◌, ◌||◌, ℕ, zero, suc, ◌+◌, ◌<◌, ◌≤◌, Bool, true, false, cond, List, [], ◌∷◌, length, refl, sym, ap, subst, ◌∙◌, Option, Some, None, arith, ◌⊎◌, inl, inr, MatchOption, MatchBool}
-use Rattle.std.proofs.lemmas.Bool.{cases_lt, cases_eq, or_cases, eqb-true, eq-eqb}
+use Rattle.std.proofs.lemmas.Bool.{cases_lt, cases_eq, or_cases, or_right, eqb-true, eq-eqb}
 use Rattle.std.proofs.lemmas.Option.{slice_get_within}
 use Rattle.std.specs.Borrow.{Bor}
 use Rattle.dl_instr.specs.declared.liveness.Reached.{Reached}
@@ -61,12 +61,8 @@ some_before steps local to reached (from, among, new) (at, is, path) = elim (or_
   | inr there ↦ (at, there, path)
 ]
 
-or_true : (a b : Bool) → b ≡ true → (a || b) ≡ true
-or_true true b is = refl
-or_true false b is = is
-
 pub none_before : (steps : List Step) (local to : ℕ) (reached : List ℕ) → IsReadFromNone steps local (to ∷ reached) → IsReadFromNone steps local reached
-none_before steps local to reached none at among path = none at (or_true (to == at) (is_among at reached) among) path
+none_before steps local to reached none at among path = none at (or_right (to == at) (is_among at reached) among) path
 
 pub reads_some : (steps : List Step) (local : ℕ) (reached : List ℕ) → SomeReads steps local reached → IsReadFromSome steps local reached
 reads_some steps local reached (at, among, (step, there, read)) = (at, among, IsReadFrom.here {step = step} there read)
@@ -78,7 +74,7 @@ among_cases place at xs rest is among = elim (or_cases (place == at) (is_among a
 ]
 
 among_more : (place at : ℕ) (xs rest : List ℕ) → xs ≡ place ∷ rest → is_among at rest ≡ true → is_among at xs ≡ true
-among_more place at xs rest is among = ap (is_among at) is ∙ or_true (place == at) (is_among at rest) among
+among_more place at xs rest is among = ap (is_among at) is ∙ or_right (place == at) (is_among at rest) among
 
 -- one more place from which the paths go no further
 pub next_more : (steps : List Step) (local place : ℕ) (some rest reached : List ℕ) (found : Option ℕ) → some ≡ place ∷ rest → IsClosed steps local reached place

@@ -1,5 +1,5 @@
--- Functions that rise below a bound, and lists by their places.
-use Rattle.std.proofs.Common.{◌≡◌, ℕ, zero, suc, ◌+◌, ◌<◌, ◌≤◌, List, [], ◌∷◌, length, refl, ap, Some, arith, inl, inr, slice_get, add-one}
+-- Functions that rise below a bound.
+use Rattle.std.proofs.Common.{◌≡◌, ℕ, zero, suc, ◌+◌, ◌<◌, ◌≤◌, ap, arith, inl, inr, add-one}
 use Rattle.std.proofs.lemmas.Bool.{cases_lt, cases_order}
 use Rattle.dl_instr.specs.Drops.{front}
 
@@ -52,9 +52,3 @@ front_below f (suc m) (suc i) rises h = let up = rising f (suc m) i m rises (ome
 
 pub front_next : (f : ℕ → ℕ) (i : ℕ) → front f (i + 1) ≡ f i + 1
 front_next f i = ap (front f) (add-one i)
-
--- there is an element at each place of a list
-pub some_at : {A : Type 0} (xs : List A) (i : ℕ) → i < length xs → (x : A) × (slice_get xs i ≡ Some x)
-some_at [] i h = absurd (omega (arith, h))
-some_at (x ∷ xs) zero h = (x, refl)
-some_at (x ∷ xs) (suc i) h = some_at xs i (omega (arith, h))

@@ -89,23 +89,26 @@ fn first_locals(alloc: Global, op: &OpDecl, args: &[i64]) -> Result<Vec<Value>, 
     requires { AllHeld op.now.params args.now }
     ensures { IfOk result (λ locals. locals.items ≡ locals_first op.now args.now) }
 {
-    let mut locals = arguments_given(alloc, op.params.as_slice(), args)?;
-    for var in op.vars.as_slice() {
+    let params = op.params.as_slice();
+    let vars = op.vars.as_slice();
+    let mut locals = arguments_given(alloc, params.len() + vars.len(), params, args)?;
+    for var in vars {
         locals.push(first_value(var.ty))?;
     }
     Ok(locals)
 }
 
-// The values of arguments for parameters.
+// The values of arguments for parameters, in a list with room for so many values.
 fn arguments_given(
     alloc: Global,
+    room: usize,
     params: &[LocalDecl],
     args: &[i64],
 ) -> Result<Vec<Value>, AllocError>
     requires { AllHeld params.now args.now }
     ensures { IfOk result (λ locals. locals.items ≡ map (λ (given : LocalDecl × ℤ). value_given given.0.ty given.1) (zip params.now args.now)) }
 {
-    let mut locals = Vec::new(alloc);
+    let mut locals = Vec::with_capacity(alloc, room)?;
     for (at, param) in params.iter().enumerate() {
         locals.push(argument_value(param.ty, args[at]))?;
     }

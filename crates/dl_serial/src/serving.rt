@@ -84,7 +84,7 @@ pub fn run_calls(
 {
     let hidden = heap.hidden_len();
     let mut line = Line {
-        entries: Items::new(alloc),
+        entries: Items::from_vec(Vec::with_capacity(alloc, calls.len())?),
         refusals: Items::new(alloc),
         ticket: first,
         free: places - hidden as u32,

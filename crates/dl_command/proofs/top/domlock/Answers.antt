@@ -3,7 +3,7 @@ use Rattle.std.proofs.Crossing.{crosses}
 use Rattle.dl_coarse.proofs.passes.Pass.TheSendSync as pass
 use Rattle.dl_coarse.proofs.passes.Note.TheSendSync as note
 use Rattle.dl_coarse.proofs.passes.Coarse.TheSendSync as coarse
-use Rattle.dl_command.proofs.Sent.{core_send}
+use Rattle.dl_coarse.proofs.Sent.{core_send}
 use Rattle.dl_command.proofs.top.domlock.Goals as goal
 
 pub domlock_over-requires-send-G-Pass : goal.domlock_over-requires-send-G-Pass

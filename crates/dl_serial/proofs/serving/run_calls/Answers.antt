@@ -19,7 +19,7 @@ use Rattle.dl_serial.specs.Serving.{Serves, begins}
 use Rattle.dl_serial.proofs.serving.run_calls.Goals as goal
 
 pub loop-at-init : goal.loop-at-init
-loop-at-init c = rw (c.new.ensures, c.new-2.ensures) (record {
+loop-at-init c = rw (c.from_vec.ensures, c.in_ok-with_capacity.ensures.items, c.new.ensures) (record {
   same = c.as_slice-call-items.ensures;
   after = record {
     serves = begins;

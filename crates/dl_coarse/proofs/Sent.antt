@@ -1,4 +1,4 @@
--- The code of a module and the machine of all callers may cross threads.
+-- The code of a module and the machine of all callers may cross threads, as a ground asks of what its passes share.
 use denote.Param.Send.{IsSend, sendable}
 use denote.Param.SendFields.{declared_send}
 use Rattle.sqlite_items.proofs.items.Items.TheSendSync as items
