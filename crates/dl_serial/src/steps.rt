@@ -3,7 +3,7 @@
 ghost use Rattle.std.specs.Prelude.{◌≡◌, ◌<◌, ◌≤◌, ◌+◌, None, if◌then◌else◌, is_none, slice_get, slice_set, option_and_then};
 ghost use Rattle.std.specs.FinMap as finite;
 ghost use Rattle.dl_ir.specs.Heap.{HasStart};
-ghost use Rattle.dl_ir.specs.Meaning.{Context, State, Outcome, fault_end, object_of, step, is_sealed, unless_sealed, links_to};
+ghost use Rattle.dl_ir.specs.Meaning.{Context, State, Outcome, fault_end, field_in, object_of, step, unless_sealed, links_to};
 ghost use Rattle.dl_ir.specs.Evaluation.{number_of, target_of};
 ghost use Rattle.dl_serial.specs.Frames.{state_of, context_of, HasRoom};
 ghost use Rattle.dl_serial.specs.Growth.{Grows};
@@ -31,15 +31,6 @@ pub fn field_of(heap: &Heap, name: Name, field: u32) -> Option<Value>
     match heap.get(name) {
         Some(object) => object.fields.get(field as usize),
         None => None,
-    }
-}
-
-fn is_sealed_at(heap: &Heap, name: Name) -> bool
-    ensures { result ≡ is_sealed (finite.get heap.now.objects name) }
-{
-    match heap.get(name) {
-        Some(object) => object.sealed,
-        None => false,
     }
 }
 
@@ -192,7 +183,7 @@ pub fn run_link(q: u32, f: u32, target: Option<Name>, frame: &Frame, heap: &mut 
     match target_at(&frame.locals, q) {
         None => Some(End::Null),
         Some(name) => {
-            let sealed = sealed_end(heap, target_held(field_of(heap, name, f)));
+            let sealed = sealed_end_at(heap, name, f);
             if sealed.is_none() {
                 heap.set_field(name, f as usize, Value::Ref(target));
             }
@@ -222,9 +213,20 @@ fn sealed_end(heap: &Heap, target: Option<Name>) -> Option<End>
     ensures { (s : State) (next : Outcome) → s.objects ≡ heap.now.objects → unless_sealed target s next ≡ (if is_none result then next else record { state = s; end = result }) }
 {
     match target {
-        Some(name) if is_sealed_at(heap, name) => Some(End::Sealed(name)),
+        Some(name) if heap.is_sealed(name) => Some(End::Sealed(name)),
         _ => None,
     }
+}
+
+// The end of overwriting the reference in a field, if it refers to a sealed object. The field is not looked up where no
+// object may be sealed.
+fn sealed_end_at(heap: &Heap, name: Name, field: u32) -> Option<End>
+    ensures { (s : State) (next : Outcome) → s.objects ≡ heap.now.objects → unless_sealed (target_of (field_in s name field)) s next ≡ (if is_none result then next else record { state = s; end = result }) }
+{
+    if !heap.may_have_sealed() {
+        return None;
+    }
+    sealed_end(heap, target_held(field_of(heap, name, field)))
 }
 
 fn target_held(held: Option<Value>) -> Option<Name>
