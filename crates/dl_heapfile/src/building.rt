@@ -67,8 +67,8 @@ fn write(heap: &mut Heap, name: Name, object: &Obj)
     requires { finite.get heap.old.objects name ≡ Some (emptied object.now) }
     ensures { heap.new ≡ record heap.old { objects = finite.insert heap.old.objects name object.now } }
 {
-    for (field, value) in object.fields.as_slice().iter().enumerate() {
-        heap.set_field(name, field, *value);
+    for (field, value) in object.fields.iter().enumerate() {
+        heap.set_field(name, field, value);
     }
 }
 
@@ -121,14 +121,16 @@ fn refers_well(heap: &Heap, ty: Ty, value: Value) -> bool
 }
 
 // Whether the fields of an object refer to hidden objects of their kinds alone.
-fn all_refer_well(heap: &Heap, decls: &[FieldDecl], values: &[Value]) -> bool
+fn all_refer_well(heap: &Heap, decls: &[FieldDecl], values: &Fields) -> bool
     requires { AllMayHold decls.now values.now }
     ensures yes { result ≡ true → HasFields heap.now.objects decls.now values.now }
     ensures no { result ≡ false → HasFields heap.now.objects decls.now values.now → ⊥ }
 {
     for (at, decl) in decls.iter().enumerate() {
-        if !refers_well(heap, decl.ty, values[at]) {
-            return false;
+        if let Some(value) = values.get(at) {
+            if !refers_well(heap, decl.ty, value) {
+                return false;
+            }
         }
     }
     true
@@ -141,9 +143,7 @@ fn object_refers_well(source: &Module, heap: &Heap, entry: &(Name, Obj)) -> bool
     ensures no { result ≡ false → RefersWell source.now heap.now.objects entry.now → ⊥ }
 {
     match source.kinds.get(entry.1.kind as usize) {
-        Some(declared) => {
-            all_refer_well(heap, declared.fields.as_slice(), entry.1.fields.as_slice())
-        }
+        Some(declared) => all_refer_well(heap, declared.fields.as_slice(), &entry.1.fields),
         None => true,
     }
 }

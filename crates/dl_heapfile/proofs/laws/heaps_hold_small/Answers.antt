@@ -6,7 +6,7 @@ pub loop-object-init : goal.loop-object-init
 loop-object-init c = rw (c.into_iter-object-iterator.ensures.into_iter_gives, c.iter-object-items.ensures) (λ all. all)
 
 pub loop-object-preserved : goal.loop-object-preserved
-loop-object-preserved c = λ rest. c.loop-object.invariant (subst SmallIn (sym c.in-Some.ensures.steps) (rw c.as_slice.ensures.value at c.fields_are_small.ensures, rest))
+loop-object-preserved c = λ rest. c.loop-object.invariant (subst SmallIn (sym c.in-Some.ensures.steps) (c.fields_are_small.ensures, rest))
 
 pub returns : goal.returns
 returns c = small_got c.args.heap.now.objects (c.loop-object.invariant (subst SmallIn (sym c.in-None.ensures.steps.0) tt))
