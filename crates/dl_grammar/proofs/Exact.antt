@@ -1,11 +1,11 @@
 -- A good reader of whole texts finds the value of each text, and else the first fault.
-use Rattle.std.proofs.Common.{◌≡◌, Bool, true, List, [], ◌∷◌, ◌++◌, None, Result, Ok, Err, refl, sym, ap, ◌∙◌, subst, append_assoc}
+use Rattle.std.proofs.Common.{◌≡◌, Bool, true, List, [], ◌∷◌, ◌++◌, None, Result, Ok, Err, refl, sym, ap, ◌∙◌, subst, append_assoc, append-nil}
 use Rattle.dl_grammar.specs.declared.lexeme.Lexeme.{Lexeme}
 use Rattle.dl_grammar.specs.declared.fault.Bound.{Bound}
 use Rattle.dl_grammar.specs.declared.fault.Fault.{Fault}
 use Rattle.dl_grammar.specs.declared.fault.Fault.TheVariants as fault
 use Rattle.dl_grammar.specs.Grammar.{Ending, Read, Passed, Rule, whole, Begins, NoneGoesOn, StandsAt, Ahead, ahead, Outcome, Reader, nothing_left, finish}
-use Rattle.dl_grammar.proofs.Good.{answer, tail, Follows, Stopped, Unexpected, AtLimit, ReadAt, ReadsAt, Good, append-nil}
+use Rattle.dl_grammar.proofs.Good.{answer, tail, Follows, Stopped, Unexpected, AtLimit, ReadAt, ReadsAt, Good}
 
 -- two ways to split a list: at one place, or the first or the second before the other
 pub data Splits (a b c d : List Lexeme) : Type 0 where

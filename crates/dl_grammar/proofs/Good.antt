@@ -60,10 +60,6 @@ pub ahead-append : (ws more rest : List Lexeme) → ahead more ≡ ahead rest �
 ahead-append [] more rest h = h
 ahead-append (w ∷ ws) more rest h = refl
 
-pub append-nil : (ws : List Lexeme) → ws ++ [] ≡ ws
-append-nil [] = refl
-append-nil (w ∷ ws) = ap (λ xs. w ∷ xs) (append-nil ws)
-
 -- ---- nothing
 pub good_pure : {A : Type 0} (a : A) → Good (pure a) (Nothing a) any
 good_pure a = record {

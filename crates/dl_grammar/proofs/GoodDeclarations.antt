@@ -1,6 +1,7 @@
 -- The readers of declarations and modules read the texts of their rules.
 use Rattle.std.proofs.Common.{◌≡◌, ℕ, ◌+◌, Bool, true, false, List, [], ◌∷◌, ◌++◌, length, Option, Some, None, refl, ap, ◌∙◌, append_assoc}
 use Rattle.std.specs.Prelude.{not}
+use Rattle.std.proofs.lemmas.Bool.{not-true}
 use Rattle.dl_grammar.specs.declared.lexeme.Fixed.{Fixed}
 use Rattle.dl_grammar.specs.declared.lexeme.Fixed.TheVariants as f
 use Rattle.dl_grammar.specs.declared.lexeme.Lexis.{Lexis}
@@ -35,10 +36,6 @@ word_shows g test b h = starts_fixed g free test b h
 widens : (less : Ahead → Bool) (o : Ahead) → less o ≡ true → any o ≡ true
 widens less o h = refl
 
-not_is : (x : Bool) → not x ≡ true → x ≡ false
-not_is true h = absurd (cc)
-not_is false h = refl
-
 good_limited : (limit : Word → Option Bound) → Good (one name limit) (One name limit) any
 good_limited limit = good_one name limit (sample (lexis.Name [])) some_word refl
 
@@ -66,7 +63,7 @@ comma_field_shows most bound stand b = starts_then _ _ (comes (fixed f.Comma)) t
 pub good_fields_more : (most : ℕ) (bound : Bound) (stand : ℕ) (before : List TreeField) → Good (read.fields_more most bound stand before) (Many (CommaField most bound stand) before) no_comma
 unfolding read.fields_more
 good_fields_more most bound stand before =
-    good_many (comes (fixed f.Comma)) (good_comma_field most bound stand) (comma_field_shows most bound stand) refl no_comma (λ o h. not_is (comes (fixed f.Comma) o) h) (widens no_comma) (widens (comes (fixed f.Comma))) before
+    good_many (comes (fixed f.Comma)) (good_comma_field most bound stand) (comma_field_shows most bound stand) refl no_comma (λ o h. not-true (comes (fixed f.Comma) o) h) (widens no_comma) (widens (comes (fixed f.Comma))) before
 
 good_fields_behind : (most : ℕ) (bound : Bound) (stand : ℕ) → Good (read.fields_behind most bound stand) (rule.fields_behind most bound stand) no_comma
 unfolding read.fields_behind
@@ -112,7 +109,7 @@ kind_shows before = starts_or (rule.root_kind before) (rule.node_kind before) st
 
 good_kinds : Good read.kinds (Many rule.kind ([], 0)) (λ o. not (starts_kind o))
 unfolding read.kinds read.kinds_from
-good_kinds = good_many starts_kind good_kind kind_shows refl (λ o. not (starts_kind o)) (λ o h. not_is (starts_kind o) h) (λ o h. refl) (λ o h. refl) ([], 0)
+good_kinds = good_many starts_kind good_kind kind_shows refl (λ o. not (starts_kind o)) (λ o h. not-true (starts_kind o) h) (λ o h. refl) (λ o h. refl) ([], 0)
 
 -- ---- operations
 abbrev no_var : Ahead → Bool
@@ -123,7 +120,7 @@ unfolding read.vars
 good_vars params =
     good_choose (comes (fixed f.Var)) (good_narrow (good_then (good_word f.Var refl) (λ l. good_before (good_fields_behind 32 (Limit which.Locals) params) (λ all. starts_then _ _ no_comma true (word_shows f.Semicolon no_comma true (λ line. refl)))
     (λ all. good_map (λ (m : ℕ). all) (good_word f.Semicolon refl)))) no_var (widens no_var)) (good_narrow (good_pure []) no_var (widens no_var))
-    (starts_then _ _ (comes (fixed f.Var)) true (word_shows f.Var (comes (fixed f.Var)) true (λ line. refl))) (nothing_shows [] no_var (comes (fixed f.Var)) false (λ o h. not_is (comes (fixed f.Var) o) h))
+    (starts_then _ _ (comes (fixed f.Var)) true (word_shows f.Var (comes (fixed f.Var)) true (λ line. refl))) (nothing_shows [] no_var (comes (fixed f.Var)) false (λ o h. not-true (comes (fixed f.Var) o) h))
 
 -- where a statement begins, or a block ends, there is no var
 var_apart_in : (x : Lexis) (line : ℕ) → seen starts_statement x line ≡ true → seen no_var x line ≡ true

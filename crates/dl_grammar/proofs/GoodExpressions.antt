@@ -1,6 +1,7 @@
 -- The readers of expressions read the texts of their rules.
 use Rattle.std.proofs.Common.{◌≡◌, ℕ, zero, suc, ◌+◌, Bool, true, false, List, [], ◌++◌, Some, None, refl}
 use Rattle.std.specs.Prelude.{not, is_some, ◌&&◌, pos}
+use Rattle.std.proofs.lemmas.Bool.{and_parts, not-true}
 use Rattle.dl_ir.specs.declared.expressions.Op.TheVariants as op
 use Rattle.dl_grammar.specs.declared.lexeme.Fixed.TheVariants as f
 use Rattle.dl_grammar.specs.declared.lexeme.Lexis.{Lexis}
@@ -26,24 +27,11 @@ ends_term o = not (comes scaling o)
 abbrev pub ends_sum : Ahead → Bool
 ends_sum o = ends_term o && not (comes adding o)
 
-both_left : (x y : Bool) → (x && y) ≡ true → x ≡ true
-both_left true y h = refl
-both_left false y h = absurd (cc)
-
-both_right : (x y : Bool) → (x && not y) ≡ true → y ≡ false
-both_right true true h = absurd (cc)
-both_right true false h = refl
-both_right false y h = absurd (cc)
-
-not_true : (x : Bool) → not x ≡ true → x ≡ false
-not_true true h = absurd (cc)
-not_true false h = refl
-
 pub sum_ends_term : (o : Ahead) → ends_sum o ≡ true → ends_term o ≡ true
-sum_ends_term o h = both_left (ends_term o) (not (comes adding o)) h
+sum_ends_term o h = (and_parts (ends_term o) (not (comes adding o)) h).0
 
 pub sum_ends_adding : (o : Ahead) → ends_sum o ≡ true → comes adding o ≡ false
-sum_ends_adding o h = both_right (ends_term o) (comes adding o) h
+sum_ends_adding o h = not-true (comes adding o) (and_parts (ends_term o) (not (comes adding o)) h).1
 
 adding_ends_in : (x : Lexis) → is_some (adding_in x) ≡ true → not (is_some (scaling_in x)) ≡ true
 adding_ends_in (lexis.Fixed f.Plus) h = refl
@@ -85,7 +73,7 @@ module _ {reader : ℕ → Reader Counted} {factor : ℕ → Rule Counted} (good
 
   pub good_term_behind : (x : Counted) → Good (read.term_behind reader x) (Many (rule.operation scaling factor) x) ends_term
   unfolding read.term_behind
-  good_term_behind x = good_many (comes scaling) scaled scaled_starts refl ends_term (λ o h. not_true (comes scaling o) h) always always' x
+  good_term_behind x = good_many (comes scaling) scaled scaled_starts refl ends_term (λ o h. not-true (comes scaling o) h) always always' x
 
   pub good_term : (used : ℕ) → Good (read.term reader used) (rule.term factor used) ends_term
   unfolding read.term

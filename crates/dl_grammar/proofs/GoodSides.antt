@@ -1,6 +1,7 @@
 -- The readers of sides, conditions and right sides read the texts of their rules.
 use Rattle.std.proofs.Common.{◌≡◌, ℕ, zero, suc, Bool, true, false, List, [], ◌++◌, refl, sym, ap, ◌∙◌, subst, inl, inr, append_assoc}
 use Rattle.std.specs.Prelude.{not, is_some, ◌&&◌}
+use Rattle.std.proofs.lemmas.Bool.{and_parts, not-true}
 use Rattle.dl_ir.specs.declared.expressions.Rel.TheVariants as rel
 use Rattle.dl_grammar.specs.declared.lexeme.Fixed.{Fixed}
 use Rattle.dl_grammar.specs.declared.lexeme.Fixed.TheVariants as f
@@ -218,19 +219,11 @@ no_dot o = not (comes (fixed f.Dot) o)
 abbrev pub ends_right : Ahead → Bool
 ends_right o = ends_sum o && no_dot o
 
-and_left : (x y : Bool) → (x && y) ≡ true → x ≡ true
-and_left true y h = refl
-and_left false y h = absurd (cc)
-
-and_right : (x y : Bool) → (x && y) ≡ true → y ≡ true
-and_right true y h = h
-and_right false y h = absurd (cc)
-
 right_sum : (o : Ahead) → ends_right o ≡ true → ends_sum o ≡ true
-right_sum o h = and_left (ends_sum o) (no_dot o) h
+right_sum o h = (and_parts (ends_sum o) (no_dot o) h).0
 
 right_dot : (o : Ahead) → ends_right o ≡ true → no_dot o ≡ true
-right_dot o h = and_right (ends_sum o) (no_dot o) h
+right_dot o h = (and_parts (ends_sum o) (no_dot o) h).1
 
 scaling_no_dot : (g : Fixed) (line : ℕ) → is_some (scaling_in (lexis.Fixed g)) ≡ true → seen no_dot (lexis.Fixed g) line ≡ true
 scaling_no_dot f.Star line h = refl
@@ -256,10 +249,6 @@ not_dot room w g _ rest (Both {xs = xs} {ys = ys} t is next) h =
 not_dot room w _ ws rest (Cut {b = b} {t = u} is) h =
     many_shows (rule.operation scaling (rule.factor room)) no_dot true (λ c. starts_then _ _ no_dot true (starts_scaling (one_more 256 c.1 (Limit which.Operators)) no_dot true scaling_no_dot)) no_dot same_end (e.Name w, 0) (Passed b u) ws rest is tt
 
-not_not : (x : Bool) → not x ≡ true → x ≡ false
-not_not true h = absurd (cc)
-not_not false h = refl
-
 right_any : (o : Ahead) → ends_right o ≡ true → any o ≡ true
 right_any o h = refl
 
@@ -267,7 +256,7 @@ good_named_side : (room : ℕ) → Good (read.named_side room) (NameSide room) e
 unfolding read.named_side
 good_named_side room = good_then good_name (λ w. good_choose (comes (fixed f.Dot)) (good_narrow (good_followed_from w) ends_right right_any) (good_narrow (good_sum_from room w) ends_right right_sum)
     (starts_then _ _ (comes (fixed f.Dot)) true (word_starts f.Dot (comes (fixed f.Dot)) true (λ line. refl)))
-    (λ g ws rest is h. not_not _ (not_dot room w g ws rest is h)))
+    (λ g ws rest is h. not-true _ (not_dot room w g ws rest is h)))
 
 -- NAME "." NAME, or a sum
 abbrev FieldOrSum : ℕ → Rule Rhs

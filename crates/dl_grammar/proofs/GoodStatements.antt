@@ -1,6 +1,7 @@
 -- The readers of statements and declarations read the texts of their rules.
 use Rattle.std.proofs.Common.{◌≡◌, ℕ, zero, suc, Bool, true, false, List, [], ◌∷◌, ◌++◌, Option, Some, None, refl, ap, ◌∙◌}
 use Rattle.std.specs.Prelude.{not, is_some}
+use Rattle.std.proofs.lemmas.Bool.{not-true}
 use Rattle.dl_grammar.specs.declared.lexeme.Fixed.{Fixed}
 use Rattle.dl_grammar.specs.declared.lexeme.Fixed.TheVariants as f
 use Rattle.dl_grammar.specs.declared.lexeme.Lexis.{Lexis}
@@ -105,12 +106,8 @@ module _ {reader : Reader TreeStmt} {S : Rule TreeStmt} (good : Good reader S no
   good_loop room = good_then (good_word f.While refl) (λ l. good_then (good_word f.LParen refl) (λ m. good_before (good_condition room) (λ c. starts_then _ _ ends_sum true (word_shows f.RParen ends_sum true (λ line. refl)))
       (λ c. good_then (good_word f.RParen refl) (λ n. good_map (λ body. roll-TreeStmt (record { line = l; what = what.While c body })) (good_block room)))))
 
-  not_is : (x : Bool) → not x ≡ true → x ≡ false
-  not_is true h = absurd (cc)
-  not_is false h = refl
-
   no_block : (e : Ending (List TreeStmt)) (ws rest : List Lexeme) → Nothing [] e ws → Follows no_else e rest → comes (fixed f.Else) (ahead (ws ++ tail e rest)) ≡ false
-  no_block _ _ rest (Empty) h = not_is (comes (fixed f.Else) (ahead rest)) h
+  no_block _ _ rest (Empty) h = not-true (comes (fixed f.Else) (ahead rest)) h
 
   good_otherwise : (room : ℕ) → Good (read.otherwise room reader) (rule.otherwise room S) no_else
   unfolding read.otherwise
