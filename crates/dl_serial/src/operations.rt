@@ -18,6 +18,7 @@ use crate::run::run_block;
 use dl_ir::{Answer, Call, Emits, End, Heap, LocalDecl, Module, Name, OpDecl, Ty, Value};
 use dl_shape::settle;
 use std::alloc::{AllocError, Global};
+use std::mem::replace;
 
 /// Runs the operation of a call, with a ticket that names what it makes, and settles the heap. Memory is wanting too
 /// where the heap has no room for as many objects as the operation may make. The heap is spent then: it is of no use but
@@ -39,9 +40,33 @@ pub fn run_op(
     ensures below { OnOk result (HasTicketsBelow (ticket + 1) heap.new.objects) }
     ensures grows { OnOk result (Grows heap.old.objects heap.new.objects 0 (allocs_of source.now call.now)) }
 {
+    run_op_in(alloc, source, heap, ticket, call, &mut Vec::new(alloc))
+}
+
+/// Runs the operation of a call as `run_op` does, with the memory of the last operation's locals, which it leaves for the
+/// next.
+pub fn run_op_in(
+    alloc: Global,
+    source: &Module,
+    heap: &mut Heap,
+    ticket: u64,
+    call: &Call,
+    memory: &mut Vec<Value>,
+) -> Result<Answer, AllocError>
+    requires checked { IsChecked source.now }
+    requires of_module { IsCallOf source.now call.now }
+    requires heap { IsHeapOf source.now heap.old.objects }
+    requires below { HasTicketsBelow ticket heap.old.objects }
+    ensures answer { IfOk result (λ answer. answer ≡ (operated source.now heap.old.objects ticket call.now).answer) }
+    ensures left { OnOk result (heap.new ≡ record heap.old { objects = (operated source.now heap.old.objects ticket call.now).objects }) }
+    ensures heap { OnOk result (IsHeapOf source.now heap.new.objects) }
+    ensures below { OnOk result (HasTicketsBelow (ticket + 1) heap.new.objects) }
+    ensures grows { OnOk result (Grows heap.old.objects heap.new.objects 0 (allocs_of source.now call.now)) }
+{
     match source.ops.get(call.op as usize) {
         Some(op) if heap.has_room_for(op.allocs as usize) => {
-            run_body(alloc, source, heap, ticket, op, call.args.as_slice())
+            let args = call.args.as_slice();
+            run_body(alloc, source, heap, ticket, op, args, memory)
         }
         Some(_) => Err(AllocError),
         None => unreachable!(),
@@ -56,6 +81,7 @@ fn run_body(
     ticket: u64,
     op: &OpDecl,
     args: &[i64],
+    memory: &mut Vec<Value>,
 ) -> Result<Answer, AllocError>
     requires start { HasStart source.now }
     requires fits { AllFit source.now op.now.params args.now }
@@ -66,7 +92,7 @@ fn run_body(
     ensures grows { OnOk result (Grows heap.old.objects heap.new.objects 0 op.now.allocs) }
 {
     let mut frame = Frame {
-        locals: first_locals(alloc, op, args)?,
+        locals: first_locals(replace(memory, Vec::new(alloc)), op, args)?,
         turns: op.fuel,
         made: 0,
         emitted: Emits::new(),
@@ -77,6 +103,7 @@ fn run_body(
     };
     let end = run_block(source, task, &op.body, &mut frame, heap).unwrap_or(End::Ok(0));
     let breach = settle(heap);
+    *memory = frame.locals;
     Ok(Answer {
         end,
         breach,
@@ -84,31 +111,29 @@ fn run_body(
     })
 }
 
-// The locals with which an operation begins: its arguments, then its vars.
-fn first_locals(alloc: Global, op: &OpDecl, args: &[i64]) -> Result<Vec<Value>, AllocError>
+// The locals with which an operation begins, in memory of others: its arguments, then its vars.
+fn first_locals(memory: Vec<Value>, op: &OpDecl, args: &[i64]) -> Result<Vec<Value>, AllocError>
     requires { AllHeld op.now.params args.now }
     ensures { IfOk result (λ locals. locals.items ≡ locals_first op.now args.now) }
 {
-    let params = op.params.as_slice();
-    let vars = op.vars.as_slice();
-    let mut locals = arguments_given(alloc, params.len() + vars.len(), params, args)?;
-    for var in vars {
+    let mut locals = arguments_given(memory, op.params.as_slice(), args)?;
+    for var in op.vars.as_slice() {
         locals.push(first_value(var.ty))?;
     }
     Ok(locals)
 }
 
-// The values of arguments for parameters, in a list with room for so many values.
+// The values of arguments for parameters, in memory of others.
 fn arguments_given(
-    alloc: Global,
-    room: usize,
+    memory: Vec<Value>,
     params: &[LocalDecl],
     args: &[i64],
 ) -> Result<Vec<Value>, AllocError>
     requires { AllHeld params.now args.now }
     ensures { IfOk result (λ locals. locals.items ≡ map (λ (given : LocalDecl × ℤ). value_given given.0.ty given.1) (zip params.now args.now)) }
 {
-    let mut locals = Vec::with_capacity(alloc, room)?;
+    let mut locals = memory;
+    locals.clear();
     for (at, param) in params.iter().enumerate() {
         locals.push(argument_value(param.ty, args[at]))?;
     }

@@ -18,8 +18,8 @@ ghost use Rattle.dl_serial.specs.Refusing.{AreOfOne, RefusesExactly};
 ghost use Rattle.dl_serial.specs.Rooms.{allocs_of};
 ghost use Rattle.dl_serial.specs.Serving.{IsEntryOf, move_count, version_made};
 
-use crate::operations::run_op;
-use dl_ir::{Call, Calls, Entry, Heap, Module, Refusal};
+use crate::operations::run_op_in;
+use dl_ir::{Call, Calls, Entry, Heap, Module, Refusal, Value};
 use sqlite_items::Items;
 use std::alloc::{AllocError, Global};
 
@@ -90,8 +90,10 @@ pub fn run_calls(
         free: places - hidden as u32,
         version: 0,
     };
+    let mut memory = Vec::new(alloc);
     for (at, call) in calls.as_slice().iter().enumerate() {
-        serve(alloc, source, heap, call, at as u32 + 1, &mut line)?;
+        let index = at as u32 + 1;
+        serve(alloc, source, heap, call, index, &mut line, &mut memory)?;
     }
     Ok(Served {
         entries: line.entries,
@@ -108,6 +110,7 @@ fn serve(
     call: &Call,
     index: u32,
     line: &mut Line,
+    memory: &mut Vec<Value>,
 ) -> Result<(), AllocError>
     requires checked { IsChecked source.now }
     requires of_module { IsCallOf source.now call.now }
@@ -127,7 +130,7 @@ fn serve(
         };
         line.refusals.push(refusal)?;
     } else {
-        let entry = carry_out(alloc, source, heap, call, index, line)?;
+        let entry = carry_out(alloc, source, heap, call, index, line, memory)?;
         line.entries.push(entry)?;
     }
     Ok(())
@@ -141,6 +144,7 @@ fn carry_out(
     call: &Call,
     index: u32,
     line: &mut Line,
+    memory: &mut Vec<Value>,
 ) -> Result<Entry, AllocError>
     requires checked { IsChecked source.now }
     requires of_module { IsCallOf source.now call.now }
@@ -155,7 +159,7 @@ fn carry_out(
     let need = allocs(source, call);
     let ticket = line.ticket;
     let before = heap.len();
-    let answer = run_op(alloc, source, heap, ticket, call)?;
+    let answer = run_op_in(alloc, source, heap, ticket, call, memory)?;
     let returned = returned_places(need, before, heap.len());
     let reserved_at = make_move(&mut line.version, need);
     let returned_at = make_move(&mut line.version, returned);

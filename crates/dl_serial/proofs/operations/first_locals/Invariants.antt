@@ -5,4 +5,4 @@ use Rattle.dl_shape.specs.Operation.{first_locals}
 use Rattle.dl_serial.proofs.operations.first_locals.Given as goal
 
 abbrev pub invariant-loop-var : goal.invariant-loop-var
-invariant-loop-var l = l.locals.items ++ map (λ (var : LocalDecl). blank var.ty) (drop l.var-index l.vars) ≡ first_locals l.op l.args
+invariant-loop-var l = l.locals.items ++ map (λ (var : LocalDecl). blank var.ty) (drop l.var-index l.var-items) ≡ first_locals l.op l.args

@@ -6,7 +6,7 @@ use Rattle.dl_shape.specs.Operation.{operated}
 use Rattle.dl_meaning.specs.FirstStates.{HasTicketsBelow}
 use Rattle.dl_meaning.proofs.Left.{calls_leave_heaps, is_positive}
 use Rattle.dl_serial.proofs.Modules.{of_left}
-use Rattle.dl_serial.proofs.operations.run_op.Goals as goal
+use Rattle.dl_serial.proofs.operations.run_op_in.Goals as goal
 
 pub returns-in-Some-clause-heap : goal.returns-in-Some-clause-heap
 returns-in-Some-clause-heap c =
