@@ -1,6 +1,6 @@
 mod Apart
 mod Neighbours
 mod Parts
-mod Scanning
+pub mod Scanning
 mod Steps
 mod Versions

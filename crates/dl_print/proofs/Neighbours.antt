@@ -1,7 +1,8 @@
 -- The pieces of a module stay apart.
 use Rattle.std.proofs.Common.{◌≡◌, ℕ, ◌+◌, Bool, true, false, List, [], ◌∷◌, ◌++◌, map, refl, sym, ◌∙◌, subst, append_assoc}
+use Rattle.std.proofs.lemmas.Bool.{and_from}
 use Rattle.std.proofs.lemmas.List.{append-nil}
-use Rattle.std.specs.Prelude.{ℤ, pos, negsuc, ◌&&◌, if◌then◌else◌, codes}
+use Rattle.std.specs.Prelude.{ℤ, pos, negsuc, if◌then◌else◌, codes}
 use Rattle.std.specs.Str.{bytes_eq}
 use Rattle.std.specs.List.{flat_map, AllByRecursion}
 use Rattle.dl_ir.specs.declared.expressions.Op.{Op}
@@ -30,11 +31,6 @@ use Rattle.dl_print.specs.Canonical as spec
 use Rattle.dl_print.specs.Canonical.{Piece, Word, Name, Number, Space, Indent, Feed, text_of, Rank, Factor, Term, Sum, Lines}
 use Rattle.dl_print.proofs.Apart.{stops, stops_fixed, are_apart}
 
--- both tests hold
-both : (a b : Bool) → a ≡ true → b ≡ true → (a && b) ≡ true
-both true b h k = k
-both false b h k = cc
-
 -- pieces stay apart before any pieces that begin with no byte of a word
 abbrev pub Open : List Piece → Type 0
 Open ps = (rest : List Piece) → stops is_word (text_of rest) ≡ true → are_apart rest ≡ true → are_apart (ps ++ rest) ≡ true
@@ -50,11 +46,11 @@ regroup a b rest h = subst (λ ps. are_apart ps ≡ true) (sym (append_assoc a b
 -- ---- expressions
 
 open_name : (text : List ℕ) → Open (Name text ∷ [])
-open_name text rest soft apart = both (stops is_word (text_of rest)) (are_apart rest) soft apart
+open_name text rest soft apart = and_from (stops is_word (text_of rest)) (are_apart rest) soft apart
 
 open_number : (n : ℤ) → Open (spec.number_pieces n)
-open_number (pos n) rest soft apart = both (stops is_word (text_of rest)) (are_apart rest) soft apart
-open_number (negsuc n) rest soft apart = both (stops is_word (text_of rest)) (are_apart rest) soft apart
+open_number (pos n) rest soft apart = and_from (stops is_word (text_of rest)) (are_apart rest) soft apart
+open_number (negsuc n) rest soft apart = and_from (stops is_word (text_of rest)) (are_apart rest) soft apart
 
 open_bracketed : (ps : List Piece) → Open ps → Open (spec.bracketed ps)
 open_bracketed ps h rest soft apart = regroup ps (Word f.RParen ∷ []) rest (h (Word f.RParen ∷ rest) refl apart)
@@ -76,7 +72,7 @@ Spaced g = (bytes : List ℕ) → stops_fixed g (32 ∷ bytes) ≡ true
 open_between : (a : List Piece) (g : Fixed) (b : List Piece) → Spaced g → Open a → Open b → Open (spec.between a g b)
 open_between a g b spaced first second rest soft apart =
     regroup a (Space ∷ Word g ∷ Space ∷ b) rest
-    (first (Space ∷ Word g ∷ Space ∷ (b ++ rest)) refl (both (stops_fixed g (32 ∷ text_of (b ++ rest))) (are_apart (b ++ rest)) (spaced (text_of (b ++ rest))) (second rest soft apart)))
+    (first (Space ∷ Word g ∷ Space ∷ (b ++ rest)) refl (and_from (stops_fixed g (32 ∷ text_of (b ++ rest))) (are_apart (b ++ rest)) (spaced (text_of (b ++ rest))) (second rest soft apart)))
 
 open_operation : (o : Op) (a b : spec.Shown) → Open a.pieces → Open b.pieces → Open (spec.operation_shown o a b).pieces
 open_operation op.Add a b h k = open_between a.pieces f.Plus (spec.as_term b) (λ bytes. refl) h (open_term b.rank b.pieces k)
@@ -102,7 +98,7 @@ pub open_sum : (e : TreeExpr) → Open (spec.sum_pieces e)
 open_sum = ind-TreeExpr (λ e. Open (spec.sum_pieces e)) (λ x y is. subst (λ l. Open (spec.sum_pieces (roll-TreeExpr l))) is (open_level y (λ e. e.0) (λ e. e.1)))
 
 open_side : (s : Side) → Open (spec.side_pieces s)
-open_side side.Null rest soft apart = both (stops is_word (text_of rest)) (are_apart rest) soft apart
+open_side side.Null rest soft apart = and_from (stops is_word (text_of rest)) (are_apart rest) soft apart
 open_side (side.Sum e) rest soft apart = open_sum e rest soft apart
 
 spaced_relation : (r : Rel) → Spaced (spec.relation_fixed r)
@@ -117,9 +113,9 @@ open_condition c = open_between (spec.side_pieces c.left) (spec.relation_fixed c
 -- ---- statements
 
 open_rhs : (r : Rhs) → Open (spec.rhs_pieces r)
-open_rhs rhs.Null rest soft apart = both (stops is_word (text_of rest)) (are_apart rest) soft apart
-open_rhs (rhs.New kind) rest soft apart = both (stops is_word (text_of rest)) (are_apart rest) soft apart
-open_rhs (rhs.Field p g) rest soft apart = both (stops is_word (text_of rest)) (are_apart rest) soft apart
+open_rhs rhs.Null rest soft apart = and_from (stops is_word (text_of rest)) (are_apart rest) soft apart
+open_rhs (rhs.New kind) rest soft apart = and_from (stops is_word (text_of rest)) (are_apart rest) soft apart
+open_rhs (rhs.Field p g) rest soft apart = and_from (stops is_word (text_of rest)) (are_apart rest) soft apart
 open_rhs (rhs.Sum e) rest soft apart = open_sum e rest soft apart
 
 closed_simple : (ps : List Piece) → Open ps → (level : ℕ) → Closed (spec.simple_line ps level)
@@ -218,8 +214,8 @@ closed_statements (s ∷ block) = (closed_statement s, closed_statements block)
 -- ---- declarations
 
 open_type : (b : Bool) (text : List ℕ) → Open ((if b then Word f.Int else Name text) ∷ [])
-open_type true text rest soft apart = both (stops is_word (text_of rest)) (are_apart rest) soft apart
-open_type false text rest soft apart = both (stops is_word (text_of rest)) (are_apart rest) soft apart
+open_type true text rest soft apart = and_from (stops is_word (text_of rest)) (are_apart rest) soft apart
+open_type false text rest soft apart = and_from (stops is_word (text_of rest)) (are_apart rest) soft apart
 
 open_field : (field : TreeField) → Open (spec.field_pieces field)
 open_field field = open_type (bytes_eq field.ty.text (codes "int")) field.ty.text

@@ -1,8 +1,9 @@
 -- Pieces that stay apart are scanned one by one.
 use Rattle.std.proofs.Common.{◌≡◌, ℕ, ◌+◌, ◌*◌, ◌-◌, ◌≤◌, ◌<◌, ◌/◌, ◌%◌, zero, suc, Bool, true, false, List, [], ◌∷◌, ◌++◌, length, refl, sym, ◌∙◌, ap, subst, arith, append_assoc, length-append}
-use Rattle.std.specs.Prelude.{Some, None, ◌==◌, ◌&&◌, not, if◌then◌else◌, map, decimal, codes, slice_range}
+use Rattle.std.specs.Prelude.{Some, None, ◌==◌, if◌then◌else◌, map, decimal, codes, slice_range}
 use Rattle.std.specs.Str.{bytes_eq}
 use Rattle.std.specs.List.{AllByRecursion}
+use Rattle.std.proofs.lemmas.Bool.{and_parts, not-true}
 use Rattle.std.proofs.lemmas.Bool.Decides.{nat_tests, Decides-eqb, same_from_decides}
 use Rattle.std.proofs.lemmas.Slice.Eq.{bytes_eq-Decides}
 use Rattle.std.proofs.lemmas.Fmt.{decimal_by_steps, decimal_digit}
@@ -28,6 +29,12 @@ use Rattle.dl_print.proofs.Apart.{stops, stops_fixed, stops_piece, are_apart}
 -- what some tokens say to the grammar in a text of the version
 abbrev pub lexes_by : ℕ → List ℕ → List Token → List Lexis
 lexes_by v bytes ts = map (λ (t : Lexeme). t.lexis) (lexemes_in v bytes ts)
+
+-- the token at its place
+pub slice_between : (before piece more : List ℕ) → slice_range (before ++ (piece ++ more)) (length before) (length before + length piece) ≡ piece
+slice_between before piece more =
+    let size : (length before + length piece) - length before ≡ length piece = omega arith in
+    rw (drop-append_seam before (piece ++ more), size) (take-append_seam piece more)
 
 module _ (v : ℕ) where
   -- ---- one step behind another
@@ -66,12 +73,6 @@ module _ (v : ℕ) where
     says = subst (λ all. lexes_by v all later.tokens ≡ lexes) (append_assoc before piece more) later.says;
   }
 
-  -- the token at its place
-  slice_between : (before piece more : List ℕ) → slice_range (before ++ (piece ++ more)) (length before) (length before + length piece) ≡ piece
-  slice_between before piece more =
-      let size : (length before + length piece) - length before ≡ length piece = omega arith in
-      rw (drop-append_seam before (piece ++ more), size) (take-append_seam piece more)
-
   -- a token
   pub scan_take : (before : List ℕ) (line : ℕ) (k : TokenKind) (piece more : List ℕ) (lexes : List Lexis) → IsPiece piece more (Some k) → Scanned (before ++ piece) line more lexes
       → Scanned before line (piece ++ more) (lexis_of v k piece ∷ lexes)
@@ -87,13 +88,9 @@ module _ (v : ℕ) where
 
   -- ---- what ends a piece
 
-  not_true : (b : Bool) → not b ≡ true → b ≡ false
-  not_true true h = cc
-  not_true false h = refl
-
   pub stops_ends : (test : ℕ → Bool) (bytes : List ℕ) → stops test bytes ≡ true → Ends test bytes
   stops_ends test [] h = tt
-  stops_ends test (b ∷ rest) h = not_true (test b) h
+  stops_ends test (b ∷ rest) h = not-true (test b) h
 
   -- where no byte of a word comes, no digit comes
   digit_ends : (bytes : List ℕ) → Ends is_word bytes → Ends is_digit bytes
@@ -243,14 +240,6 @@ module _ (v : ℕ) where
       scan_skip before line (32 ∷ []) (32 ∷ (indentation level ++ more)) lexes (OneBlank refl)
       (scan_skip (before ++ 32 ∷ []) line (32 ∷ []) (indentation level ++ more) lexes (OneBlank refl) (scan_indent level ((before ++ 32 ∷ []) ++ 32 ∷ []) line more lexes later))
 
-  and_first : (a b : Bool) → (a && b) ≡ true → a ≡ true
-  and_first true b h = refl
-  and_first false b h = cc
-
-  and_second : (a b : Bool) → (a && b) ≡ true → b ≡ true
-  and_second true b h = h
-  and_second false b h = cc
-
   scan_piece : (p : Piece) (more : List ℕ) (lexes : List Lexis) → stops_piece p more ≡ true → IsToken v p → ((b : List ℕ) (l : ℕ) → Scanned b l more lexes) → (before : List ℕ) (line : ℕ)
       → Scanned before line (piece_text p ++ more) (piece_lexes p ++ lexes)
   scan_piece (Word g) more lexes h is later before line =
@@ -271,6 +260,6 @@ module _ (v : ℕ) where
   pub scan : (ps : List Piece) → are_apart ps ≡ true → AllByRecursion (IsToken v) ps → (before : List ℕ) (line : ℕ) → Scanned before line (text_of ps) (lexes_of ps)
   scan [] h are before line = scan_none before line
   scan (p ∷ ps) h are before line =
-      let first : stops_piece p (text_of ps) ≡ true = and_first (stops_piece p (text_of ps)) (are_apart ps) h in
-      let rest : are_apart ps ≡ true = and_second (stops_piece p (text_of ps)) (are_apart ps) h in
+      let first : stops_piece p (text_of ps) ≡ true = (and_parts (stops_piece p (text_of ps)) (are_apart ps) h).0 in
+      let rest : are_apart ps ≡ true = (and_parts (stops_piece p (text_of ps)) (are_apart ps) h).1 in
       scan_piece p (text_of ps) (lexes_of ps) first are.0 (scan ps rest are.1) before line

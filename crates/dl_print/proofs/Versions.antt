@@ -8,9 +8,8 @@ use Rattle.dl_text.specs.declared.token.TokenKind.TheVariants as kind
 use Rattle.dl_grammar.specs.declared.lexeme.Fixed.{Fixed}
 use Rattle.dl_grammar.specs.declared.lexeme.Lexis.{Lexis}
 use Rattle.dl_grammar.specs.declared.lexeme.Lexis.TheVariants as lexis
-use Rattle.dl_grammar.specs.declared.lexeme.Lexeme.{Lexeme}
 use Rattle.dl_grammar.specs.Rules.{version_in}
-use Rattle.dl_grammar.specs.Texts.{is_text, reserved, word_lexis, lexis_of, lexeme_of, lexemes_in, version_of}
+use Rattle.dl_grammar.specs.Texts.{is_text, reserved, word_lexis, lexis_of, version_of}
 use Rattle.dl_grammar.proofs.Versions.{version_said}
 use Rattle.dl_print.specs.Canonical.{number_lexis}
 use Rattle.dl_print.proofs.Scanning.{lexes_by}

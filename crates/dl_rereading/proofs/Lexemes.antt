@@ -1,10 +1,9 @@
 -- The names and numbers of the lexemes of a text.
-use Rattle.std.proofs.Common.{◌≡◌, ℕ, ◌+◌, ◌-◌, ◌≤◌, Bool, true, false, List, [], ◌∷◌, ◌++◌, length, Option, Some, None, refl, sym, ap, ◌∙◌, subst, if◌then◌else◌, arith, length-append, append_assoc}
+use Rattle.std.proofs.Common.{◌≡◌, ℕ, ◌+◌, ◌≤◌, Bool, true, false, List, [], ◌∷◌, ◌++◌, length, Option, Some, None, refl, sym, ap, ◌∙◌, subst, if◌then◌else◌, arith, length-append, append_assoc}
 use Rattle.std.specs.Prelude.{◌==◌, ◌&&◌, slice_range, codes}
 use Rattle.std.proofs.lemmas.Bool.{eqb-true}
 use Rattle.std.specs.List.{AllByRecursion}
 use Rattle.std.proofs.lemmas.Bool.Decides.{nat_tests}
-use Rattle.std.proofs.Math.Seq.{drop-append_seam, take-append_seam}
 use Rattle.dl_text.specs.declared.class.Class.TheVariants as class
 use Rattle.dl_text.specs.declared.token.Token.{Token}
 use Rattle.dl_text.specs.declared.token.TokenKind.{TokenKind}
@@ -18,6 +17,7 @@ use Rattle.dl_grammar.specs.declared.lexeme.Fixed.TheVariants as f
 use Rattle.dl_grammar.specs.Texts.{is_text, reserved, symbol, word_lexis, lexis_of, lexemes_in, lexemes_of, version_of}
 use Rattle.dl_grammar.proofs.Versions.{read_version}
 use Rattle.dl_print.specs.Tokens.{IsReserved, HasTokens, IsName}
+use Rattle.dl_print.proofs.Scanning.{slice_between}
 use Rattle.dl_rereading.specs.Rereading.{SpelledHasTokens}
 use Rattle.dl_rereading.proofs.Tokens.{LexisSo, LexemeSo}
 use Rattle.dl_rereading.proofs.TokensOfModules.{module_has_tokens}
@@ -86,12 +86,6 @@ module _ (v : ℕ) where
       subst (λ k. LexisSo v (lexis_of v k (b ∷ digits))) same (number_by (value (b ∷ digits)) (is_text (b ∷ digits) (codes "1")) (is_text (b ∷ digits) (codes "2")) small)
   piece_so _ _ _ (TwoMarks {b} {c} {rest} h) k is = let same : kind.Symbol ≡ k = cc in subst (λ k. LexisSo v (lexis_of v k (b ∷ c ∷ []))) same (symbol_so (b ∷ c ∷ [])).so
   piece_so _ _ _ (OneMark {b} {rest} h ends) k is = let same : kind.Symbol ≡ k = cc in subst (λ k. LexisSo v (lexis_of v k (b ∷ []))) same (symbol_so (b ∷ [])).so
-
-  -- the token at its place
-  slice_between : (before piece more : List ℕ) → slice_range (before ++ (piece ++ more)) (length before) (length before + length piece) ≡ piece
-  slice_between before piece more =
-      let size : (length before + length piece) - length before ≡ length piece = omega arith in
-      rw (drop-append_seam before (piece ++ more), size) (take-append_seam piece more)
 
   -- the lexemes of the bytes that a text is cut into, behind others
   cut_so : (before : List ℕ) (at line : ℕ) (bytes : List ℕ) (ts : List Token) (to end : ℕ) (rest : List ℕ) → Cut at line bytes ts to end rest → length before ≡ at

@@ -19,10 +19,6 @@ pub where_ok : {A : Type 0} (test : Bool) (fault : TypeFault) (r : Result A Type
 where_ok true fault r a e = (refl, e)
 where_ok false fault r a e = cc
 
-pub where_some : {A : Type 0} (test : Bool) (x a : A) → (if test then Some x else None) ≡ Some a → (test ≡ true) × (x ≡ a)
-where_some true x a e = let same : x ≡ a = cc in (refl, same)
-where_some false x a e = cc
-
 pub first_or_rest : {A : Type 0} (test : Bool) (x : A) (rest : Option A) (a : A) → (if test then Some x else rest) ≡ Some a → (x ≡ a) ⊎ (rest ≡ Some a)
 first_or_rest true x rest a e = let same : x ≡ a = cc in inl same
 first_or_rest false x rest a e = inr e

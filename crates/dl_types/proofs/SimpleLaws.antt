@@ -1,6 +1,8 @@
 -- What simple statements and conditions are by the rules is what the functions give.
 use Rattle.std.proofs.Common.{◌≡◌, ◌==◌, ℕ, Bool, true, false, ◌&&◌, not, List, ◌++◌, refl, sym, ap, subst, ◌∙◌, Option, Some, None, Result, Ok, Err, slice_get, MatchOption, if◌then◌else◌}
-use Rattle.std.proofs.lemmas.Bool.{eqb-true, eq-eqb, false≢true}
+use Rattle.std.proofs.lemmas.Bool.{eqb-true, false≢true, false_from_ne_true}
+use Rattle.std.proofs.lemmas.Option.{cond_some}
+use Rattle.dl_lemmas.proofs.Tests.{same_number}
 use Rattle.dl_ir.specs.declared.expressions.Cond.{Cond}
 use Rattle.dl_ir.specs.declared.expressions.Cond.TheVariants as cond
 use Rattle.dl_ir.specs.declared.expressions.Expr.{Expr}
@@ -27,20 +29,16 @@ use Rattle.dl_types.specs.Names.{local_of, is_root_in}
 use Rattle.dl_types.specs.Statements.{Numbers, number_typed, side_given, place_given, rhs_given, is_null, is_new_root, refers_to_root, assigned, assign_checked, assign_typed, stored_as, stored, store_typed, sameness, refs_compared, refs_related, compared, cond_typed}
 use Rattle.dl_types.specs.DeclarationRules.{IsNamed, IsUnnamed, local_name}
 use Rattle.dl_types.specs.StatementRules.{IsNumber, IsSide, IsPlace, IsRight, Assigns, Stores, IsSameness, Compares, RefersToRoot, IsNewRoot, HasParts, IsAssign, IsStore, IsCond, IsValue}
-use Rattle.dl_types.proofs.Checking.{where_some}
 use Rattle.dl_types.proofs.OperandLaws.{FindsLocal, local_tells, local_found, local_unknown, number_is, is_number, side_is, is_side, place_is, is_place, right_is, is_right}
 
 -- ---- types that fit
-same_kind : (kind : ℕ) → (kind == kind) ≡ true
-same_kind kind = eq-eqb kind kind refl
-
 pub assigns : {x : ℕ} {ty : Ty} {what : Given} {s : Stmt} → Assigns x ty what s → assigned x ty what ≡ Some s
 assigns Assigns.null = refl
-assigns (Assigns.new {p = p} {kind = kind}) = ap (λ v. if v then Some (stmt.New p kind) else None) (same_kind kind)
+assigns (Assigns.new {p = p} {kind = kind}) = ap (λ v. if v then Some (stmt.New p kind) else None) (same_number kind)
 assigns Assigns.load = refl
-assigns (Assigns.follow {p = p} {q = q} {f = f} {kind = kind}) = ap (λ v. if v then Some (stmt.Follow p q f) else None) (same_kind kind)
+assigns (Assigns.follow {p = p} {q = q} {f = f} {kind = kind}) = ap (λ v. if v then Some (stmt.Follow p q f) else None) (same_number kind)
 assigns Assigns.number = refl
-assigns (Assigns.copy {p = p} {q = q} {kind = kind}) = ap (λ v. if v then Some (stmt.Copy p q) else None) (same_kind kind)
+assigns (Assigns.copy {p = p} {q = q} {kind = kind}) = ap (λ v. if v then Some (stmt.Copy p q) else None) (same_number kind)
 
 is_some : {A : Type 0} (P : A → Type 0) (a b : A) → Some a ≡ Some b → P a → P b
 is_some P a b same holds = let one : a ≡ b = cc in subst P one holds
@@ -50,21 +48,21 @@ assigned_fits x Int given.Null s e = cc
 assigned_fits x (Of kind) given.Null s e = is_some (Assigns x (Of kind) given.Null) _ s e Assigns.null
 assigned_fits x Int (given.New other) s e = cc
 assigned_fits x (Of kind) (given.New other) s e =
-    let found = where_some (kind == other) (stmt.New x other) s e in
+    let found = cond_some (kind == other) (stmt.New x other) s e in
     let one : other ≡ kind = sym (eqb-true kind other found.0) in
     subst (Assigns x (Of kind) (given.New other)) found.1 (subst (λ k. Assigns x (Of kind) (given.New k) (stmt.New x k)) (sym one) Assigns.new)
 assigned_fits x Int (given.Field p f Int) s e = is_some (Assigns x Int (given.Field p f Int)) _ s e Assigns.load
 assigned_fits x Int (given.Field p f (Of other)) s e = cc
 assigned_fits x (Of kind) (given.Field p f Int) s e = cc
 assigned_fits x (Of kind) (given.Field p f (Of other)) s e =
-    let found = where_some (kind == other) (stmt.Follow x p f) s e in
+    let found = cond_some (kind == other) (stmt.Follow x p f) s e in
     let one : other ≡ kind = sym (eqb-true kind other found.0) in
     subst (Assigns x (Of kind) (given.Field p f (Of other))) found.1 (subst (λ k. Assigns x (Of kind) (given.Field p f (Of k)) (stmt.Follow x p f)) (sym one) Assigns.follow)
 assigned_fits x Int (given.Number value) s e = is_some (Assigns x Int (given.Number value)) _ s e Assigns.number
 assigned_fits x (Of kind) (given.Number value) s e = cc
 assigned_fits x Int (given.Reference p other) s e = cc
 assigned_fits x (Of kind) (given.Reference p other) s e =
-    let found = where_some (kind == other) (stmt.Copy x p) s e in
+    let found = cond_some (kind == other) (stmt.Copy x p) s e in
     let one : other ≡ kind = sym (eqb-true kind other found.0) in
     subst (Assigns x (Of kind) (given.Reference p other)) found.1 (subst (λ k. Assigns x (Of kind) (given.Reference p k) (stmt.Copy x p)) (sym one) Assigns.copy)
 assigned_fits x ty given.Unfit s e = cc
@@ -72,13 +70,13 @@ assigned_fits x ty given.Unfit s e = cc
 pub stores : {place what : Given} {s : Stmt} → Stores place what s → stored place what ≡ Some s
 stores Stores.number = refl
 stores Stores.null = refl
-stores (Stores.link {q = q} {f = f} {p = p} {kind = kind}) = ap (λ v. if v then Some (stmt.Link q f p) else None) (same_kind kind)
+stores (Stores.link {q = q} {f = f} {p = p} {kind = kind}) = ap (λ v. if v then Some (stmt.Link q f p) else None) (same_number kind)
 
 stored_in : (q f : ℕ) (ty : Ty) (what : Given) (s : Stmt) → stored_as q f ty what ≡ Some s → Stores (given.Field q f ty) what s
 stored_in q f Int (given.Number value) s e = is_some (Stores (given.Field q f Int) (given.Number value)) _ s e Stores.number
 stored_in q f (Of kind) given.Null s e = is_some (Stores (given.Field q f (Of kind)) given.Null) _ s e Stores.null
 stored_in q f (Of kind) (given.Reference p other) s e =
-    let found = where_some (kind == other) (stmt.Link q f p) s e in
+    let found = cond_some (kind == other) (stmt.Link q f p) s e in
     let one : other ≡ kind = sym (eqb-true kind other found.0) in
     subst (Stores (given.Field q f (Of kind)) (given.Reference p other)) found.1 (subst (λ k. Stores (given.Field q f (Of kind)) (given.Reference p k) (stmt.Link q f p)) (sym one) Stores.link)
 stored_in q f ty what s e = cc
@@ -101,13 +99,13 @@ pub compares : {r : Rel} {a b : Given} {test : Cond} → Compares r a b test →
 compares Compares.numbers = refl
 compares (Compares.references {same = same} {p = p} {q = q} {kind = kind} is) =
     ap (λ o. refs_related o (given.Reference p kind) (given.Reference q kind)) (is_sameness is)
-    ∙ ap (λ v. if v then Some (cond.Refs same (ref_side.Local p) (ref_side.Local q)) else None) (same_kind kind)
+    ∙ ap (λ v. if v then Some (cond.Refs same (ref_side.Local p) (ref_side.Local q)) else None) (same_number kind)
 compares (Compares.null_right {p = p} {kind = kind} is) = ap (λ o. refs_related o (given.Reference p kind) given.Null) (is_sameness is)
 compares (Compares.null_left {p = p} {kind = kind} is) = ap (λ o. refs_related o given.Null (given.Reference p kind)) (is_sameness is)
 
 refs_fit : (r : Rel) (same : Bool) (a b : Given) (test : Cond) → IsSameness r same → refs_compared same a b ≡ Some test → Compares r a b test
 refs_fit r same (given.Reference p kind) (given.Reference q other) test is e =
-    let found = where_some (kind == other) (cond.Refs same (ref_side.Local p) (ref_side.Local q)) test e in
+    let found = cond_some (kind == other) (cond.Refs same (ref_side.Local p) (ref_side.Local q)) test e in
     let one : other ≡ kind = sym (eqb-true kind other found.0) in
     subst (Compares r (given.Reference p kind) (given.Reference q other)) found.1
     (subst (λ k. Compares r (given.Reference p kind) (given.Reference q k) (cond.Refs same (ref_side.Local p) (ref_side.Local q))) (sym one) (Compares.references is))
@@ -146,10 +144,6 @@ module _ (kinds : List KindDecl) where
 null_is : (what : Given) → is_null what ≡ true → what ≡ given.Null
 null_is given.Null e = refl
 null_is what e = cc
-
-never : (v : Bool) → (v ≡ true → ⊥) → v ≡ false
-never true not_so = absurd (not_so refl)
-never false not_so = refl
 
 none_where : {A : Type 0} (o : Option A) → ((a : A) → o ≡ Some a → ⊥) → o ≡ None
 none_where None not_so = refl
@@ -229,14 +223,14 @@ module _ (kinds : List KindDecl) (params vars : List LocalDecl) (line : ℕ) whe
     is_assign r (IsAssign.assign_root {at = at} {ty = ty} {what = what} parts root set) =
         with_parts at ty what parts
         ∙ ap (λ v. if v && not (is_null what) then Err (AssignRoot line) else (if is_new_root kinds what then Err (NewRoot line) else or_fault (assigned at ty what) (KindClash line))) (refers_is kinds ty root)
-        ∙ ap (λ v. if not v then Err (AssignRoot line) else (if is_new_root kinds what then Err (NewRoot line) else or_fault (assigned at ty what) (KindClash line))) (never (is_null what) (λ null. set (null_is what null)))
+        ∙ ap (λ v. if not v then Err (AssignRoot line) else (if is_new_root kinds what then Err (NewRoot line) else or_fault (assigned at ty what) (KindClash line))) (false_from_ne_true (is_null what) (λ null. set (null_is what null)))
     is_assign r (IsAssign.new_root {at = at} {ty = ty} {what = what} parts no_root new) =
         with_parts at ty what parts ∙ checked_else at ty what true (λ root. absurd (no_root root)) (makes_is kinds what new)
     is_assign r (IsAssign.clash {at = at} {ty = ty} {what = what} parts root new none) =
-        with_parts at ty what parts ∙ checked_else at ty what false root (never (is_new_root kinds what) (λ makes. new (makes_root kinds what makes)))
+        with_parts at ty what parts ∙ checked_else at ty what false root (false_from_ne_true (is_new_root kinds what) (λ makes. new (makes_root kinds what makes)))
         ∙ ap (λ o. or_fault o (KindClash line)) (none_where (assigned at ty what) (λ s is. none s (assigned_fits at ty what s is)))
     is_assign r (IsAssign.fits {at = at} {ty = ty} {what = what} {s = s} parts root new fits) =
-        with_parts at ty what parts ∙ checked_else at ty what false root (never (is_new_root kinds what) (λ makes. new (makes_root kinds what makes)))
+        with_parts at ty what parts ∙ checked_else at ty what false root (false_from_ne_true (is_new_root kinds what) (λ makes. new (makes_root kinds what makes)))
         ∙ ap (λ o. or_fault o (KindClash line)) (assigns fits)
 
   -- ---- stores

@@ -1,5 +1,5 @@
 -- What statements and blocks are by the rules is what the functions give.
-use Rattle.std.proofs.Common.{◌≡◌, ℕ, List, [], ◌∷◌, ◌++◌, map, refl, sym, ap, subst, ◌∙◌, Some, None, Result, Ok, Err}
+use Rattle.std.proofs.Common.{◌≡◌, ℕ, List, [], ◌∷◌, ◌++◌, map, refl, sym, ap, subst, ◌∙◌, Some, None, Result, Ok, Err, append_assoc, append-nil}
 use Rattle.dl_ir.specs.declared.expressions.Cond.{Cond}
 use Rattle.dl_ir.specs.declared.expressions.Expr.{Expr}
 use Rattle.dl_ir.specs.declared.modules.KindDecl.{KindDecl}
@@ -25,20 +25,12 @@ abbrev run : List Typed → Result (List Stmt) TypeFault
 run [] = Ok []
 run (r ∷ rest) = r >>= λ one. run rest >>= λ more. Ok (one ∷ more)
 
-push_append : (done : List Stmt) (one : Stmt) (more : List Stmt) → (done ++ one ∷ []) ++ more ≡ done ++ one ∷ more
-push_append [] one more = refl
-push_append (s ∷ done) one more = ap (λ l. s ∷ l) (push_append done one more)
-
-append_none : (done : List Stmt) → done ++ [] ≡ done
-append_none [] = refl
-append_none (s ∷ done) = ap (λ l. s ∷ l) (append_none done)
-
 turn_after : (done : List Stmt) (one : Stmt) (r : Result (List Stmt) TypeFault) → (r >>= λ more. Ok ((done ++ one ∷ []) ++ more)) ≡ ((r >>= λ more. Ok (one ∷ more)) >>= λ more. Ok (done ++ more))
-turn_after done one (Ok more) = ap (λ l. Ok l) (push_append done one more)
+turn_after done one (Ok more) = ap (λ l. Ok l) (append_assoc done (one ∷ []) more)
 turn_after done one (Err fault) = refl
 
 turns : (done : List Stmt) (rs : List Typed) → each (λ before one. one) done rs ≡ (run rs >>= λ more. Ok (done ++ more))
-turns done [] = ap (λ l. Ok l) (sym (append_none done))
+turns done [] = ap (λ l. Ok l) (sym (append-nil done))
 turns done (Err fault ∷ rest) = refl
 turns done (Ok one ∷ rest) = turns (done ++ one ∷ []) rest ∙ turn_after done one (run rest)
 

@@ -2,6 +2,7 @@
 use Rattle.std.proofs.Common.{◌≡◌, ℕ, Bool, false, ◌&&◌, ◌==◌, List, [], ◌∷◌, ◌++◌, map, sym, ap, subst, ◌∙◌, Option, Some, None, Ok, slice_get}
 use Rattle.std.specs.Prelude.{not}
 use Rattle.std.proofs.lemmas.Bool.{eqb-true}
+use Rattle.std.proofs.lemmas.Option.{cond_some}
 use Rattle.dl_ir.specs.declared.expressions.Cond.{Cond}
 use Rattle.dl_ir.specs.declared.expressions.Cond.TheVariants as cond
 use Rattle.dl_ir.specs.declared.expressions.Expr.{Expr}
@@ -29,7 +30,7 @@ use Rattle.dl_types.specs.declared.operands.Given.TheVariants as given
 use Rattle.dl_types.specs.Checks.{or_fault, each}
 use Rattle.dl_types.specs.Names.{is_root_kind}
 use Rattle.dl_types.specs.Statements.{is_null, is_new_root, refers_to_root, field_assigned, number_assigned, null_assigned, assigned, assign_typed, rhs_given, local_typed, stored_as, stored, store_typed, place_given, side_given, sameness, refs_compared, refs_related, compared, cond_typed, number_typed, return_typed, emit_typed, Typed, in_turn, what_step, stmt_typed, block_typed}
-use Rattle.dl_types.proofs.Checking.{bind_ok, unless_ok, where_some, fault_or_some, same_ok, and_true}
+use Rattle.dl_types.proofs.Checking.{bind_ok, unless_ok, fault_or_some, same_ok, and_true}
 use Rattle.dl_types.proofs.Found.{types_in}
 use Rattle.dl_types.proofs.Givens.{IsKindThere, node_kind, word_found, expression_fits, IsRight, side_right, place_right, right_side_right}
 
@@ -58,7 +59,7 @@ module _ (params vars : List LocalDecl) (source : Module) where
   field_fits x Int p f (Of kind) s there is right no_root e = cc
   field_fits x (Of kind) p f Int s there is right no_root e = cc
   field_fits x (Of kind) p f (Of other) s there is right no_root e =
-      let found = where_some (kind == other) (stmt.Follow x p f) s e in
+      let found = cond_some (kind == other) (stmt.Follow x p f) s e in
       let one : kind ≡ other = eqb-true kind other found.0 in
       subst Fit found.1 (typed.follow is (node_kind source kind (there x kind is) no_root) right.1 (subst (λ k. HasFieldOf source right.0 f (Of k)) (sym one) right.2))
 
@@ -75,14 +76,14 @@ module _ (params vars : List LocalDecl) (source : Module) where
   assigned_fits x t given.Null s there is right no_root no_new e = null_fits x t s is e
   assigned_fits x Int (given.New kind) s there is right no_root no_new e = cc
   assigned_fits x (Of other) (given.New kind) s there is right no_root no_new e =
-      let found = where_some (other == kind) (stmt.New x kind) s e in
+      let found = cond_some (other == kind) (stmt.New x kind) s e in
       let one : other ≡ kind = eqb-true other kind found.0 in
       subst Fit found.1 (typed.new (subst (λ k. IsLocalOf types x k) one is) (node_kind source kind right no_new))
   assigned_fits x t (given.Field p f of) s there is right no_root no_new e = field_fits x t p f of s there is right (and_true (refers_to_root source.kinds t) no_root) e
   assigned_fits x t (given.Number value) s there is right no_root no_new e = number_fits x t value s is right e
   assigned_fits x Int (given.Reference p kind) s there is right no_root no_new e = cc
   assigned_fits x (Of other) (given.Reference p kind) s there is right no_root no_new e =
-      let found = where_some (other == kind) (stmt.Copy x p) s e in
+      let found = cond_some (other == kind) (stmt.Copy x p) s e in
       let one : other ≡ kind = eqb-true other kind found.0 in
       subst Fit found.1 (typed.copy is (subst (λ k. IsLocalOf types p k) (sym one) right) (node_kind source other (there x other is) (and_true (is_root_kind source.kinds other) no_root)))
   assigned_fits x t given.Unfit s there is right no_root no_new e = cc
@@ -101,7 +102,7 @@ module _ (params vars : List LocalDecl) (source : Module) where
   stored_in_fits q f Int (given.Number value) s place right e = let same : stmt.Store q f value ≡ s = cc in subst Fit same (typed.store place.1 place.2 right)
   stored_in_fits q f (Of kind) given.Null s place right e = let same : stmt.Cut q f ≡ s = cc in subst Fit same (typed.cut place.1 place.2)
   stored_in_fits q f (Of kind) (given.Reference p other) s place right e =
-      let found = where_some (kind == other) (stmt.Link q f p) s e in
+      let found = cond_some (kind == other) (stmt.Link q f p) s e in
       let one : kind ≡ other = eqb-true kind other found.0 in
       subst Fit found.1 (typed.link place.1 place.2 (subst (λ k. IsLocalOf types p k) (sym one) right))
   stored_in_fits q f t what s place right e = cc
@@ -123,7 +124,7 @@ module _ (params vars : List LocalDecl) (source : Module) where
 
   references_fit : (same : Bool) (a b : Given) (c : Cond) → Right a → Right b → refs_compared same a b ≡ Some c → FitCond c
   references_fit same (given.Reference p kind) (given.Reference q other) c left right e =
-      let found = where_some (kind == other) (cond.Refs same (ref_side.Local p) (ref_side.Local q)) c e in
+      let found = cond_some (kind == other) (cond.Refs same (ref_side.Local p) (ref_side.Local q)) c e in
       let one : kind ≡ other = eqb-true kind other found.0 in
       subst FitCond found.1 (typed.references same left (subst (λ k. IsLocalOf types q k) (sym one) right))
   references_fit same (given.Reference p kind) given.Null c left right e = let is : cond.Refs same (ref_side.Local p) ref_side.Null ≡ c = cc in subst FitCond is (typed.null_right same left)

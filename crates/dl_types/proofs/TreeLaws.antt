@@ -3,7 +3,7 @@ use Rattle.std.proofs.Common.{◌≡◌, ℕ, zero, suc, ◌+◌, Bool, true, fa
 use Rattle.std.specs.Prelude.{is_some, IfOk, IfErr, ◌≢◌}
 use Rattle.std.specs.List.{list_any}
 use Rattle.std.specs.Str.{bytes_eq}
-use Rattle.std.proofs.lemmas.Bool.{false≢true}
+use Rattle.std.proofs.lemmas.Bool.{false≢true, false_from_ne_true}
 use Rattle.dl_ir.specs.declared.modules.KindDecl.{KindDecl}
 use Rattle.dl_ir.specs.declared.modules.LocalDecl.{LocalDecl}
 use Rattle.dl_ir.specs.declared.modules.Module.{Module}
@@ -111,10 +111,6 @@ kind_there (k ∷ kinds) (suc at) kind there is = either k.is_root (kind_there k
 has_root_kind : (kinds : List KindDecl) → HasRootKind kinds → list_any is_root kinds ≡ true
 has_root_kind kinds there = kind_there kinds there.0 there.1 there.2 there.3
 
-never : (v : Bool) → (v ≡ true → ⊥) → v ≡ false
-never true not_so = absurd (not_so refl)
-never false not_so = refl
-
 -- ---- operations
 module _ (kinds : List KindDecl) (before : List OpDecl) (op : TreeOp) where
   -- an operation with these parts, as the function has it
@@ -175,7 +171,7 @@ module _ (kinds : List KindDecl) (before : List OpDecl) (op : TreeOp) where
   is_op r (IsOp.bad_param {fault = fault} new are) = new_op (Err fault) new are
   is_op r (IsOp.no_root_param {params = params} has none) =
       new_op (Ok params) has.new has.are_params
-      ∙ ap (λ v. if v then op_behind kinds op params else Err (KindClash op.name.line)) (never (list_any is_reference_local params) (λ holds. none (some_param params true holds refl)))
+      ∙ ap (λ v. if v then op_behind kinds op params else Err (KindClash op.name.line)) (false_from_ne_true (list_any is_reference_local params) (λ holds. none (some_param params true holds refl)))
   is_op r (IsOp.bad_var {params = params} {fault = fault} has root are) = vars_op params (Err fault) has root are
   is_op r (IsOp.bad_body {params = params} vars {fault = fault} has root are is) =
       vars_op params (Ok vars) has root are ∙ ap (λ (o : Result (List Stmt) TypeFault). o >>= λ body. Ok (op_of params vars body)) (is_typed_block kinds params vars op.body (Err fault) is)
@@ -223,7 +219,7 @@ module _ (tree : Tree) where
   pub is_tree : (r : Result Module TypeFault) → IsTree tree r → typed tree ≡ r
   is_tree r (IsTree.bad_kind {fault = fault} are) = after_kinds (Err fault) are
   is_tree r (IsTree.bad_op kinds {fault = fault} are all) = after_ops kinds (Err fault) are all
-  is_tree r (IsTree.no_roots kinds ops are all none) = after_ops kinds (Ok ops) are all ∙ ap (closed kinds ops) (never (list_any is_root kinds) (λ holds. none (root_kind kinds holds)))
+  is_tree r (IsTree.no_roots kinds ops are all none) = after_ops kinds (Ok ops) are all ∙ ap (closed kinds ops) (false_from_ne_true (list_any is_root kinds) (λ holds. none (root_kind kinds holds)))
   is_tree r (IsTree.fits kinds ops are all root) = after_ops kinds (Ok ops) are all ∙ ap (closed kinds ops) (has_root_kind kinds root)
 
 -- the rules and the function say the same of each tree
