@@ -6,6 +6,7 @@ ghost use Rattle.dl_history.specs.Histories.{Seen, ArePlacesOf, caller_at, index
 ghost use Rattle.dl_history.specs.Orders.{IsOrder};
 
 use dl_ir::{Entry, Move};
+use sqlite_items::Items;
 use std::alloc::Global;
 use std::marker::Model;
 
@@ -13,7 +14,7 @@ use std::marker::Model;
 /// they made, in rising order of versions.
 #[derive(Debug, Drop)]
 pub struct History {
-    entries: Vec<Entry>,
+    entries: Items<Entry>,
     moves: Vec<Move>,
     // The places of the entries, by caller and index.
     order: Vec<u32>,
@@ -22,9 +23,9 @@ pub struct History {
 impl Model for History {
     ghost Value = { Seen };
 
-    ghost view = { λ h. record { entries = h.entries.items; moves = h.moves.items } };
+    ghost view = { λ h. record { entries = h.entries; moves = h.moves.items } };
 
-    ghost invariant = { λ h. IsOrder h.entries.items h.order.items };
+    ghost invariant = { λ h. IsOrder h.entries h.order.items };
 }
 
 impl History {
@@ -34,16 +35,16 @@ impl History {
         ensures moves { result.moves ≡ [] }
     {
         History {
-            entries: Vec::new(alloc),
+            entries: Items::new(alloc),
             moves: Vec::new(alloc),
             order: Vec::new(alloc),
         }
     }
 
     /// The history of entries whose places are in this order.
-    pub(crate) fn of_parts(entries: Vec<Entry>, moves: Vec<Move>, order: Vec<u32>) -> History
-        requires { IsOrder entries.items order.items }
-        ensures entries { result.entries ≡ entries.items }
+    pub(crate) fn of_parts(entries: Items<Entry>, moves: Vec<Move>, order: Vec<u32>) -> History
+        requires { IsOrder entries order.items }
+        ensures entries { result.entries ≡ entries }
         ensures moves { result.moves ≡ moves.items }
     {
         History {

@@ -11,7 +11,7 @@ mod pool;
 mod reports;
 
 pub use histories::History;
-pub use merging::{MergeRoom, gather, merge};
+pub use merging::{MergeRoom, gather, history_of, merge};
 pub use operations::call_of;
 pub use pieces::{put_answer, put_dotted, put_name};
 pub use reports::write_report;

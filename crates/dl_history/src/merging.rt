@@ -63,12 +63,51 @@ pub fn merge(source: &Module, files: &[Calls], closed: &Closed, room: MergeRoom)
 {
     let MergeRoom {
         mut entries,
-        mut moves,
-        mut order,
+        moves,
+        order,
         total: _,
     } = room;
     gather(closed.entries.as_slice(), &mut entries);
     entries.sort_unstable_by_key(|entry| entry.ticket);
+    over_entries(source, files, Items::from_vec(entries), moves, order)
+}
+
+/// The history of one caller: its entries as they are, in rising order of tickets, and their moves in rising order of
+/// versions. It copies no entry, and takes no memory.
+pub fn history_of(
+    source: &Module,
+    files: &[Calls],
+    entries: Items<Entry>,
+    room: MergeRoom,
+) -> History
+    requires room { length entries ≤ room }
+    requires tickets { in_rising (λ (entry : OneEntry). entry.ticket) entries ≡ entries }
+    requires versions { AreApart (λ (move : OneMove). move.version) (moves_of source.now files.now entries) }
+    ensures entries { result.entries ≡ entries }
+    ensures moves { result.moves ≡ in_rising_versions (moves_of source.now files.now entries) }
+{
+    over_entries(source, files, entries, room.moves, room.order)
+}
+
+// The history of entries that stand in its order. Their moves and places go into these lists, which are empty.
+fn over_entries(
+    source: &Module,
+    files: &[Calls],
+    entries: Items<Entry>,
+    moves: Vec<Move>,
+    order: Vec<u32>,
+) -> History
+    requires few { length entries < 2 ^ 32 }
+    requires no_moves { moves.items ≡ [] }
+    requires no_places { order.items ≡ [] }
+    requires for_moves { 2 * length entries ≤ vec_capacity moves }
+    requires for_places { length entries ≤ vec_capacity order }
+    requires versions { AreApart (λ (move : OneMove). move.version) (moves_of source.now files.now entries) }
+    ensures entries { result.entries ≡ entries }
+    ensures moves { result.moves ≡ in_rising_versions (moves_of source.now files.now entries) }
+{
+    let mut moves = moves;
+    let mut order = order;
     gather_moves(source, files, entries.as_slice(), &mut moves);
     moves.sort_unstable_by_key(|change| change.version);
     put_in_order(entries.as_slice(), &mut order);

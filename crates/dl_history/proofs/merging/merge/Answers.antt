@@ -9,32 +9,23 @@ use Rattle.dl_shape.proofs.Rising.{sorted_is, rising_pieces, apart_moves}
 use Rattle.dl_history.specs.Histories.{joined}
 use Rattle.dl_history.proofs.merging.merge.Goals as goal
 
+pub over_entries-requires-clause-versions : goal.over_entries-requires-clause-versions
+over_entries-requires-clause-versions c =
+    let all : c.gather.new.all.items ≡ joined c.args.closed.now.entries
+    = c.gather.ensures ∙ ap (λ l. l ++ joined c.as_slice.result.now) c.room.invariant.no_entries ∙ ap joined c.as_slice.ensures in
+    let up : IsNonDecreasingBy (λ (entry : OneEntry). entry.ticket) c.sort_unstable_by_key.new.self.items
+    = IsNonDecreasingBy-from_sort_by_key (λ (entry : OneEntry). entry.ticket) _ c.sort_unstable_by_key.ensures.sorted (λ a r q k. search rules) in
+    let entries : c.from_vec.result ≡ in_rising (λ (entry : OneEntry). entry.ticket) (joined c.args.closed.now.entries)
+    = c.from_vec.ensures ∙ sorted_is (λ (entry : OneEntry). entry.ticket) (joined c.args.closed.now.entries) _ c.requires.tickets
+    (subst (λ l. IsPermutation l c.sort_unstable_by_key.new.self.items) all c.sort_unstable_by_key.ensures.permutation) up in
+    subst (λ l. AreApart (λ (move : OneMove). move.version) (moves_of c.args.source.now c.args.files.now l)) (sym entries)
+    (apart_moves (λ (move : OneMove). move.version) _ _ (rising_pieces (λ (entry : OneEntry). entry.ticket) (moves_of_entry c.args.source.now c.args.files.now) (joined c.args.closed.now.entries)) c.requires.versions)
+
 pub returns-clause-entries : goal.returns-clause-entries
 returns-clause-entries c =
     let all : c.gather.new.all.items ≡ joined c.args.closed.now.entries
     = c.gather.ensures ∙ ap (λ l. l ++ joined c.as_slice.result.now) c.room.invariant.no_entries ∙ ap joined c.as_slice.ensures in
     let up : IsNonDecreasingBy (λ (entry : OneEntry). entry.ticket) c.sort_unstable_by_key.new.self.items
     = IsNonDecreasingBy-from_sort_by_key (λ (entry : OneEntry). entry.ticket) _ c.sort_unstable_by_key.ensures.sorted (λ a r q k. search rules) in
-    c.of_parts.ensures.entries ∙ sorted_is (λ (entry : OneEntry). entry.ticket) (joined c.args.closed.now.entries) _ c.requires.tickets
+    c.over_entries.ensures.entries ∙ c.from_vec.ensures ∙ sorted_is (λ (entry : OneEntry). entry.ticket) (joined c.args.closed.now.entries) _ c.requires.tickets
     (subst (λ l. IsPermutation l c.sort_unstable_by_key.new.self.items) all c.sort_unstable_by_key.ensures.permutation) up
-
-pub returns-clause-moves : goal.returns-clause-moves
-returns-clause-moves c =
-    let all : c.gather.new.all.items ≡ joined c.args.closed.now.entries
-    = c.gather.ensures ∙ ap (λ l. l ++ joined c.as_slice.result.now) c.room.invariant.no_entries ∙ ap joined c.as_slice.ensures in
-    let up : IsNonDecreasingBy (λ (entry : OneEntry). entry.ticket) c.sort_unstable_by_key.new.self.items
-    = IsNonDecreasingBy-from_sort_by_key (λ (entry : OneEntry). entry.ticket) _ c.sort_unstable_by_key.ensures.sorted (λ a r q k. search rules) in
-    let entries : c.sort_unstable_by_key.new.self.items ≡ in_rising (λ (entry : OneEntry). entry.ticket) (joined c.args.closed.now.entries)
-    = sorted_is (λ (entry : OneEntry). entry.ticket) (joined c.args.closed.now.entries) _ c.requires.tickets
-    (subst (λ l. IsPermutation l c.sort_unstable_by_key.new.self.items) all c.sort_unstable_by_key.ensures.permutation) up in
-    let moves : c.gather_moves.new.moves.items ≡ moves_of c.args.source.now c.args.files.now c.sort_unstable_by_key.new.self.items
-    = c.gather_moves.ensures ∙ ap (λ l. l ++ moves_of c.args.source.now c.args.files.now c.as_slice-2.result.now) c.room.invariant.no_moves ∙ ap (moves_of c.args.source.now c.args.files.now) c.as_slice-2.ensures.value in
-    let here : AreApart (λ (move : OneMove). move.version) (moves_of c.args.source.now c.args.files.now (in_rising (λ (entry : OneEntry). entry.ticket) (joined c.args.closed.now.entries)))
-    = apart_moves (λ (move : OneMove). move.version) _ _ (rising_pieces (λ (entry : OneEntry). entry.ticket) (moves_of_entry c.args.source.now c.args.files.now) (joined c.args.closed.now.entries)) c.requires.versions in
-    let apart : AreApart (λ (move : OneMove). move.version) (moves_of c.args.source.now c.args.files.now c.sort_unstable_by_key.new.self.items)
-    = subst (λ l. AreApart (λ (move : OneMove). move.version) (moves_of c.args.source.now c.args.files.now l)) (sym entries) here in
-    let up_moves : IsNonDecreasingBy (λ (move : OneMove). move.version) c.sort_unstable_by_key-2.new.self.items
-    = IsNonDecreasingBy-from_sort_by_key (λ (move : OneMove). move.version) _ c.sort_unstable_by_key-2.ensures.sorted (λ a r q k. search rules) in
-    c.of_parts.ensures.moves ∙ sorted_is (λ (move : OneMove). move.version) (moves_of c.args.source.now c.args.files.now c.sort_unstable_by_key.new.self.items) _ apart
-    (subst (λ l. IsPermutation l c.sort_unstable_by_key-2.new.self.items) moves c.sort_unstable_by_key-2.ensures.permutation) up_moves
-    ∙ ap (λ l. in_rising (λ (move : OneMove). move.version) (moves_of c.args.source.now c.args.files.now l)) (sym c.of_parts.ensures.entries)
