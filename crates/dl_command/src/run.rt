@@ -18,12 +18,12 @@ ghost use Rattle.dl_command.specs.Texts.{CanStart, first_heap, heap_of};
 use crate::loading::Input;
 use crate::status::Status;
 use dl_core::Ground;
-use dl_history::{History, MergeRoom, gather, merge, write_report};
+use dl_history::{History, MergeRoom, gather, history_of, merge, write_report};
 use dl_instr::{Code, codes_of_modules, instrument};
 use dl_io::{Failed, Sink};
 use dl_ir::{Calls, Closed, Heap, Module, Refusal};
 use dl_machine::{Gate, run_files};
-use dl_serial::{Served, greatest_ticket, run_calls};
+use dl_serial::{greatest_ticket, run_calls};
 use dl_text::Out;
 use sqlite_items::Items;
 use std::alloc::{AllocError, Global};
@@ -31,6 +31,7 @@ use std::sync::Wait;
 use std::thread::Threads;
 
 /// What running the calls of a command came to: the history, the refusals by caller and index, and what the run left.
+/// Behind `run_from` the entries stand in the history alone, and what the run left has no list of them.
 #[derive(Drop)]
 pub struct Run {
     pub history: History,
@@ -78,8 +79,8 @@ pub fn run_from(
     let served = run_calls(alloc, source, &mut heap, places, first, &files[0])?;
     let room = MergeRoom::new(alloc, served.entries.len() as u32)?;
     let refusals = Items::from_slice(alloc, served.refusals.as_slice())?;
-    let closed = close(alloc, heap, served)?;
-    let history = merge(source, files, &closed, room);
+    let closed = close(alloc, heap, served.refusals, served.free)?;
+    let history = history_of(source, files, served.entries, room);
     Ok(Run {
         history,
         refusals,
@@ -169,21 +170,25 @@ pub fn run_over<R: Threads + Wait + Sync, G: Ground, T: Gate>(
     })
 }
 
-// What a run of one caller left.
-fn close(alloc: Global, heap: Heap, served: Served) -> Result<Closed, AllocError>
+// What a run of one caller left, without its entries, which its history has.
+fn close(
+    alloc: Global,
+    heap: Heap,
+    refusals: Items<Refusal>,
+    free: u32,
+) -> Result<Closed, AllocError>
     ensures heap { IfOk result (λ closed. closed.heap ≡ heap) }
-    ensures entries { IfOk result (λ closed. closed.entries ≡ served.entries ∷ []) }
-    ensures refusals { IfOk result (λ closed. closed.refusals ≡ served.refusals ∷ []) }
+    ensures entries { IfOk result (λ closed. closed.entries ≡ []) }
+    ensures refusals { IfOk result (λ closed. closed.refusals ≡ refusals ∷ []) }
+    ensures free { IfOk result (λ closed. closed.free ≡ free) }
 {
-    let mut entries = Items::new(alloc);
-    entries.push(served.entries)?;
-    let mut refusals = Items::new(alloc);
-    refusals.push(served.refusals)?;
+    let mut lists = Items::new(alloc);
+    lists.push(refusals)?;
     Ok(Closed {
         heap,
-        entries,
-        refusals,
-        free: served.free,
+        entries: Items::new(alloc),
+        refusals: lists,
+        free,
     })
 }
 

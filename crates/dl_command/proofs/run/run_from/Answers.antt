@@ -2,9 +2,8 @@ use Rattle.std.proofs.Common.{◌≡◌, ◌∙◌, sym, ap, subst, arith}
 use Rattle.std.proofs.lemmas.List.{append-nil}
 use Rattle.dl_ir.specs.declared.answers.Entry.{Entry as OneEntry}
 use Rattle.dl_ir.specs.Heap.{View}
-use Rattle.dl_shape.specs.Rising.{in_rising, AreApart}
 use Rattle.dl_shape.proofs.Legal.{legal_rises}
-use Rattle.dl_shape.proofs.Rising.{rising_is, rises_apart}
+use Rattle.dl_shape.proofs.Rising.{rising_is}
 use Rattle.dl_history.specs.Histories.{joined, AreByCaller}
 use Rattle.dl_closed.proofs.Histories.{never_seals}
 use Rattle.dl_command.proofs.RunLemmas.{one_element, one_by_caller, one_in_order}
@@ -20,17 +19,13 @@ overflow_cast-len c =
     let few = (calls 0 c.index-files-0.result (omega arith)).short in
     omega (arith, c.len.ensures, few, c.in_ok-served.ensures.short)
 
-pub merge-history-requires-clause-tickets : goal.merge-history-requires-clause-tickets
-merge-history-requires-clause-tickets c =
-    let list : joined c.in_ok-closed.closed.entries ≡ c.in_ok-served.served.entries = ap joined c.in_ok-closed.ensures.entries ∙ append-nil _ in
-    subst (λ es. AreApart (λ (entry : OneEntry). entry.ticket) es) (sym list)
-    (rises_apart (λ (entry : OneEntry). entry.ticket) _ (legal_rises c.in_ok-served.ensures.legal.goes))
+pub history_of-history-requires-clause-tickets : goal.history_of-history-requires-clause-tickets
+history_of-history-requires-clause-tickets c = rising_is (λ (entry : OneEntry). entry.ticket) _ (legal_rises c.in_ok-served.ensures.legal.goes)
 
-pub merge-history-requires-clause-versions : goal.merge-history-requires-clause-versions
-merge-history-requires-clause-versions c =
+pub history_of-history-requires-clause-versions : goal.history_of-history-requires-clause-versions
+history_of-history-requires-clause-versions c =
     let one = one_element c.args.files.now c.index-files-0.result c.requires.one c.index-files-0.is in
-    let list : joined c.in_ok-closed.closed.entries ≡ c.in_ok-served.served.entries = ap joined c.in_ok-closed.ensures.entries ∙ append-nil _ in
-    rw (one, list) c.in_ok-served.ensures.apart
+    rw one c.in_ok-served.ensures.apart
 
 pub returns-clause-run : goal.returns-clause-run
 returns-clause-run c =
@@ -38,13 +33,10 @@ returns-clause-run c =
     let legal = c.in_ok-served.ensures.legal in
     let lawful = c.in_ok-served.ensures.pool in
     let calls = rw one at c.requires.calls in
-    let list : joined c.in_ok-closed.closed.entries ≡ c.in_ok-served.served.entries = ap joined c.in_ok-closed.ensures.entries ∙ append-nil _ in
-    let same : c.merge-history.result.entries ≡ c.in_ok-served.served.entries
-    = c.merge-history.ensures.entries ∙ ap (in_rising (λ (entry : OneEntry). entry.ticket)) list
-    ∙ rising_is (λ (entry : OneEntry). entry.ticket) _ (legal_rises c.in_ok-served.ensures.legal.goes) in
+    let same : c.history_of-history.result.entries ≡ c.in_ok-served.served.entries = c.history_of-history.ensures.entries in
     let those : c.in_ok-refusals.refusals ≡ c.in_ok-served.served.refusals = c.in_ok-refusals.ensures ∙ c.as_slice.ensures in
     let of_one = c.in_ok-served.ensures.refusals in
-    let moves = rw (one, same) at c.merge-history.ensures.moves in
+    let moves = rw one at c.history_of-history.ensures.moves in
     rw (one, same, those) record {
       covers = c.in_ok-served.ensures.covers;
       in_order = one_in_order _ of_one.caller of_one.in_order;
@@ -59,10 +51,7 @@ pub returns-clause-heap : goal.returns-clause-heap
 returns-clause-heap c =
     let one = one_element c.args.files.now c.index-files-0.result c.requires.one c.index-files-0.is in
     let replay = c.in_ok-served.ensures.replay in
-    let list : joined c.in_ok-closed.closed.entries ≡ c.in_ok-served.served.entries = ap joined c.in_ok-closed.ensures.entries ∙ append-nil _ in
-    let same : c.merge-history.result.entries ≡ c.in_ok-served.served.entries
-    = c.merge-history.ensures.entries ∙ ap (in_rising (λ (entry : OneEntry). entry.ticket)) list
-    ∙ rising_is (λ (entry : OneEntry). entry.ticket) _ (legal_rises c.in_ok-served.ensures.legal.goes) in
+    let same : c.history_of-history.result.entries ≡ c.in_ok-served.served.entries = c.history_of-history.ensures.entries in
     rw (one, same) (ap (λ (h : View). h.objects) c.in_ok-closed.ensures.heap ∙ sym replay)
 
 pub returns-clause-refusals : goal.returns-clause-refusals
