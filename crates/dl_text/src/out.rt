@@ -48,18 +48,26 @@ impl Out {
     }
 
     /// Puts bytes behind those that were put before.
+    #[inline(always)]
     pub fn put<K: Sink>(&mut self, sink: &mut K, bytes: &[u8]) -> Result<(), Failed>
         requires { self.old.failed ≡ false }
         ensures { Puts (K.taken sink.old) self.old bytes.now result (K.taken sink.new) self.new }
     {
         match bytes {
-            [] => return Ok(()),
+            [] => Ok(()),
             [byte] if self.used < SIZE => {
                 self.hold_byte(*byte);
-                return Ok(());
+                Ok(())
             }
-            _ => {}
+            _ => self.put_some(sink, bytes),
         }
+    }
+
+    // Puts bytes, which may be many.
+    fn put_some<K: Sink>(&mut self, sink: &mut K, bytes: &[u8]) -> Result<(), Failed>
+        requires { self.old.failed ≡ false }
+        ensures { Puts (K.taken sink.old) self.old bytes.now result (K.taken sink.new) self.new }
+    {
         if bytes.len() <= SIZE - self.used {
             self.hold(bytes);
             return Ok(());

@@ -1,6 +1,6 @@
 use Rattle.std.proofs.Common.{refl}
 use Rattle.dl_text.proofs.WritingLemmas.{puts_both, puts_short}
-use Rattle.dl_text.proofs.out.Out.put.Goals as goal
+use Rattle.dl_text.proofs.out.Out.put_some.Goals as goal
 
 pub returns-in_err-flush : goal.returns-in_err-flush
 returns-in_err-flush g c =
