@@ -54,6 +54,7 @@ impl Census {
     }
 
     /// The object with this name, if there is one.
+    #[inline(always)]
     pub fn get(&self, name: Name) -> Option<&Obj>
         ensures { option_copied result ≡ map.get self.now.objects.rows name }
     {
@@ -64,6 +65,7 @@ impl Census {
     }
 
     /// The number of fields that refer to the object with this name, if there is one.
+    #[inline(always)]
     pub fn count(&self, name: Name) -> Option<u64>
         ensures { result ≡ map.get self.now.counts.rows name }
     {
@@ -119,6 +121,7 @@ impl Census {
 
     /// Writes a field of an object, and answers the value that it had. Nothing changes where there is no such object or
     /// field. What the values refer to stays as it was counted.
+    #[inline(always)]
     pub fn replace_field(&mut self, name: Name, field: usize, value: Value) -> Option<Value>
         ensures before { result ≡ option_and_then (λ (object : Obj). slice_get object.fields field) (map.get self.old.objects.rows name) }
         ensures written { self.new ≡ record self.old { objects = record self.old.objects { rows = with_field self.old.objects.rows name field value } } }
@@ -155,6 +158,7 @@ impl Census {
     }
 
     // Files the name of an object that had another number before.
+    #[inline(always)]
     fn refile(&mut self, name: Name, is_open: bool, before: u64, count: u64)
         requires filed { IsFiled (with_count name before self.old) }
         requires now { map.get self.old.counts.rows name ≡ Some count }
@@ -168,6 +172,7 @@ impl Census {
     }
 
     /// Counts a value that a field holds now. Answers whether what it refers to is there.
+    #[inline(always)]
     pub fn gain(&mut self, value: Value) -> bool
         requires filed { IsFiled self.old }
         requires few { (name : Name) (count : ℕ) → map.get self.old.counts.rows name ≡ Some count → count + 1 < 2 ^ 64 }
@@ -189,6 +194,7 @@ impl Census {
     }
 
     /// Counts a value no more that a field has held.
+    #[inline(always)]
     pub fn lose(&mut self, value: Value)
         requires filed { IsFiled self.old }
         ensures filed { IsFiled self.new }
@@ -273,6 +279,7 @@ fn is_open(name: Name, sealed: bool) -> bool
 }
 
 // Puts a name among others where it is of an open object that fits, or else takes it away.
+#[inline(always)]
 fn mark(names: &mut Marks, name: Name, is_open: bool, fits: bool)
     requires { map.get names.old.rows name ≡ None → map.len names.old.rows < names.old.room }
     ensures { names.new ≡ record names.old { rows = marked (is_open && fits) names.old.rows name } }
@@ -285,6 +292,7 @@ fn mark(names: &mut Marks, name: Name, is_open: bool, fits: bool)
 }
 
 // Marks a name where what is told of its count changes.
+#[inline(always)]
 fn remark(names: &mut Marks, name: Name, is_open: bool, fitted: bool, fits: bool)
     requires before { map.contains_key names.old.rows name ≡ (is_open && fitted) }
     requires room { map.get names.old.rows name ≡ None → map.len names.old.rows < names.old.room }

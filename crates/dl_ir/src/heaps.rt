@@ -78,6 +78,7 @@ impl Heap {
     }
 
     /// The object with this name, if there is one.
+    #[inline(always)]
     pub fn get(&self, name: Name) -> Option<&Obj>
         ensures { option_copied result ≡ map.get self.now.objects name }
     {
@@ -130,6 +131,7 @@ impl Heap {
     }
 
     /// Writes a field of an object. Nothing changes where there is no such object or field.
+    #[inline(always)]
     pub fn set_field(&mut self, name: Name, field: usize, value: Value)
         ensures { self.new ≡ record self.old { objects = with_field self.old.objects name field value } }
     {

@@ -22,6 +22,7 @@ impl Hints {
     }
 
     /// A place at which the name may stand.
+    #[inline(always)]
     pub(crate) fn guess(&self, name: Name) -> usize {
         match self.places.get(slot(&self.places, name)) {
             Some(place) => place.wrapping_add(name.index) as usize,
@@ -41,6 +42,7 @@ impl Hints {
 }
 
 // Which of the places is that of the name's ticket.
+#[inline(always)]
 fn slot(places: &[u32], name: Name) -> usize {
     name.ticket as usize & places.len().wrapping_sub(1)
 }

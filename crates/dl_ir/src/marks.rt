@@ -50,6 +50,7 @@ impl Marks {
     }
 
     /// Puts a name among them. It takes no memory.
+    #[inline(always)]
     pub fn put(&mut self, name: Name)
         requires { map.get self.old.rows name ≡ None → map.len self.old.rows < self.old.room }
         ensures { self.new ≡ record self.old { rows = map.insert self.old.rows name tt } }
@@ -61,6 +62,7 @@ impl Marks {
     }
 
     /// Removes a name, if it is among them.
+    #[inline(always)]
     pub fn remove(&mut self, name: Name)
         ensures { self.new ≡ record self.old { rows = map.remove self.old.rows name } }
     {
@@ -79,6 +81,7 @@ impl Marks {
 }
 
 // Where the name is among falling names, or where it would stand. At the end nothing is searched.
+#[inline(always)]
 fn place(names: &[Name], name: Name) -> Result<usize, usize>
     requires { map.is_sorted name_cmp (rising names.now) ≡ true }
     ensures found { IfOk result (λ at. (at < length names.now) × IsAt name (rising names.now) (length names.now - 1 - at)) }
@@ -104,6 +107,7 @@ fn search(names: &[Name], name: Name) -> Result<usize, usize>
 }
 
 // Puts a name at a place.
+#[inline(always)]
 fn put_at(names: &mut Vec<Name>, at: usize, name: Name)
     requires within { at ≤ length names.old.items }
     requires room { length names.old.items < vec_capacity names.old }
@@ -122,6 +126,7 @@ fn put_at(names: &mut Vec<Name>, at: usize, name: Name)
 }
 
 // Removes the name at a place.
+#[inline(always)]
 fn remove_at(names: &mut Vec<Name>, at: usize)
     requires { at < length names.old.items }
     ensures items { names.new.items ≡ remove names.old.items at }

@@ -17,11 +17,14 @@ use crate::rows::Row;
 use std::alloc::{AllocError, Global};
 use std::marker::Model;
 
+// How many names without a value may be there beyond as many as have one, in pairs.
+const SPARE: usize = 64;
+
 /// Values under names, in the order of names, with memory for a number of them that is chosen when it is made. Time grows
 /// with the logarithm of that number, over many calls together, as long as names are put in rising order.
 #[derive(Drop)]
 pub struct Table<V> {
-    // In the order of names. A name stays when its value is removed, until so many are there that memory is wanted.
+    // In the order of names. A name stays when its value is removed, until more such names are there than others.
     entries: Vec<(Name, Option<V>)>,
     // How many names have a value.
     len: usize,
@@ -66,6 +69,7 @@ impl<V> Table<V> {
     }
 
     /// The value under this name, if there is one.
+    #[inline(always)]
     pub fn get(&self, name: Name) -> Option<&V>
         ensures { option_copied result ≡ map.get self.now.rows name }
     {
@@ -123,7 +127,13 @@ impl<V: Drop> Table<V> {
         requires { map.get self.old.rows name ≡ None → map.len self.old.rows < self.old.room }
         ensures { self.new ≡ record self.old { rows = map.insert self.old.rows name value } }
     {
-        self.first = make_room(&mut self.entries, &mut self.hints, self.first, self.room);
+        self.first = make_room(
+            &mut self.entries,
+            &mut self.hints,
+            self.first,
+            self.len,
+            self.room,
+        );
         match place_near(&self.entries, self.hints.guess(name), name) {
             Ok(at) => {
                 self.len += fill(&mut self.entries, at, value);
@@ -160,6 +170,7 @@ impl<V: Drop> Table<V> {
 impl Table<Row> {
     /// Writes a field of an object, and answers the value that it had. Nothing changes where there is no such object or
     /// field.
+    #[inline(always)]
     pub(crate) fn replace_field(&mut self, name: Name, field: usize, value: Value) -> Option<Value>
         ensures before { result ≡ option_and_then (λ (row : Row). slice_get row.object.fields field) (map.get self.old.rows name) }
         ensures written { self.new ≡ record self.old { rows = changed self.old.rows name (row_with field value) } }
@@ -181,6 +192,7 @@ impl Table<Row> {
 
     /// Adds to the number of an object and then takes away from it, down to 0, and answers what it was and whether the
     /// object is sealed. Nothing changes where there is no such object.
+    #[inline(always)]
     pub(crate) fn recount(&mut self, name: Name, more: u64, fewer: u64) -> Option<(u64, bool)>
         requires { (row : Row) → map.get self.old.rows name ≡ Some row → 0 < more → row.refs + more < 2 ^ 64 }
         ensures before { result ≡ option_map (λ (row : Row). (row.refs, row.object.sealed)) (map.get self.old.rows name) }
@@ -204,6 +216,7 @@ fn place<V>(entries: &[(Name, V)], name: Name) -> Result<usize, usize>
 
 // Where the name is among sorted entries, or where it would stand. Where it is at the guessed place, or above all others,
 // nothing is searched.
+#[inline(always)]
 fn place_near<V>(entries: &[(Name, V)], guess: usize, name: Name) -> Result<usize, usize>
     requires { map.is_sorted name_cmp entries.now ≡ true }
     ensures found { IfOk result (IsAt name entries.now) }
@@ -219,6 +232,7 @@ fn place_near<V>(entries: &[(Name, V)], guess: usize, name: Name) -> Result<usiz
 }
 
 // Whether there are names and this one is above them.
+#[inline(always)]
 fn is_above<V>(entries: &[(Name, V)], name: Name) -> bool
     requires { map.is_sorted name_cmp entries.now ≡ true }
     ensures { result ≡ true → IsGap name entries.now (length entries.now) }
@@ -240,12 +254,13 @@ fn first_from<V>(entries: &[(Name, Option<V>)], from: usize) -> usize
     at
 }
 
-// Lets go of the names that have no value, where memory for another name may be wanting. Answers a place before which no
-// name has a value.
+// Lets go of the names that have no value, where they are more than the others or memory for another name may be wanting.
+// Answers a place before which no name has a value.
 fn make_room<V: Drop>(
     entries: &mut Vec<(Name, Option<V>)>,
     hints: &mut Hints,
     first: usize,
+    len: usize,
     room: usize,
 ) -> usize
     requires passed { present (take first entries.old.items) ≡ [] }
@@ -256,7 +271,7 @@ fn make_room<V: Drop>(
     ensures capacity { vec_capacity entries.new ≡ vec_capacity entries.old }
     ensures room { length (present entries.old.items) < room → length entries.new.items < vec_capacity entries.new }
 {
-    if entries.len() / 2 < room {
+    if entries.len() / 2 < room.min(len.saturating_add(SPARE)) {
         return first;
     }
     pack(entries);
@@ -330,6 +345,7 @@ fn take_at<V>(entries: &mut Vec<(Name, Option<V>)>, at: usize) -> Option<V>
 }
 
 // Writes a field of the object at a place, if there is one, and answers the value that it had.
+#[inline(always)]
 fn set_at(
     entries: &mut Vec<(Name, Option<Row>)>,
     at: usize,
@@ -353,6 +369,7 @@ fn set_at(
 
 // Adds to the number at a place and then takes away from it, and answers what it was and whether the object is sealed, if
 // there is one.
+#[inline(always)]
 fn recount_at(
     entries: &mut Vec<(Name, Option<Row>)>,
     at: usize,
