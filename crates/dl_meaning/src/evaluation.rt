@@ -6,19 +6,31 @@ ghost use Rattle.dl_ir.specs.Evaluation.{number_of, target_of, in_range, applied
 use dl_ir::{Cond, Expr, Fault, Name, Op, RefSide, Rel, Value};
 
 /// The value of an expression at these locals, or its first fault.
+#[inline(always)]
 pub fn evaluate(e: &Expr, locals: &[Value]) -> Result<i64, Fault>
     ensures { result ≡ value_of e.now locals.now }
 {
     match e {
         Expr::Num(n) => Ok(*n),
         Expr::Local(x) => Ok(number_at(locals, *x)),
+        _ => evaluate_deep(e, locals),
+    }
+}
+
+// The value of an expression of any depth.
+fn evaluate_deep(e: &Expr, locals: &[Value]) -> Result<i64, Fault>
+    ensures { result ≡ value_of e.now locals.now }
+{
+    match e {
+        Expr::Num(n) => Ok(*n),
+        Expr::Local(x) => Ok(number_at(locals, *x)),
         Expr::Neg(inner) => {
-            let x = evaluate(inner.get(), locals)?;
+            let x = evaluate_deep(inner.get(), locals)?;
             negate(x)
         }
         Expr::Bin { op, left, right } => {
-            let x = evaluate(left.get(), locals)?;
-            let y = evaluate(right.get(), locals)?;
+            let x = evaluate_deep(left.get(), locals)?;
+            let y = evaluate_deep(right.get(), locals)?;
             apply(*op, x, y)
         }
     }
