@@ -1,7 +1,6 @@
 -- one turn of a loop, as its bound sees it
-use Rattle.std.proofs.Common.{◌≡◌, ℕ, zero, suc, ◌-◌, ◌<◌, ◌≤◌, true, false, is_some, true≢false, ◌==◌, refl, sym, Option, Some, None, Ok, arith}
+use Rattle.std.proofs.Common.{◌≡◌, ℕ, zero, suc, ◌-◌, ◌<◌, ◌≤◌, true, false, ◌==◌, refl, sym, None, Ok, arith}
 use Rattle.std.proofs.lemmas.Bool.{ne_eqb}
-use Rattle.dl_ir.specs.declared.answers.End.{End}
 use Rattle.dl_ir.specs.declared.expressions.Cond.{Cond}
 use Rattle.dl_ir.specs.Evaluation.{holds_of}
 use Rattle.dl_ir.specs.Meaning.{State, Does, loops, take_turn}
@@ -12,8 +11,3 @@ pub turn : (c : Cond) (body : Does) (s t : State) (n : ℕ) → 0 < s.turns → 
 turn c body s t zero left bound holds runs fewer = absurd (omega arith)
 turn c body s t (suc n) left bound holds runs fewer =
     let test : (s.turns == 0) ≡ false = ne_eqb s.turns 0 (λ e. omega (arith, e)) in (n, omega arith, sym (rw (test, holds, runs) refl))
-
--- what is no Some is None
-pub is_none_of : (end : Option End) → false ≡ is_some end → end ≡ None
-is_none_of None e = refl
-is_none_of (Some end) e = absurd (true≢false (sym e))

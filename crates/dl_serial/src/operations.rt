@@ -96,16 +96,17 @@ fn run_body(
         turns: op.fuel,
         made: 0,
         emitted: Emits::new(),
+        end: None,
     };
     let task = Task {
         ticket,
         allocs: op.allocs,
     };
-    let end = run_block(source, task, &op.body, &mut frame, heap).unwrap_or(End::Ok(0));
+    run_block(source, task, &op.body, &mut frame, heap);
     let breach = settle(heap);
     *memory = frame.locals;
     Ok(Answer {
-        end,
+        end: frame.end.unwrap_or(End::Ok(0)),
         breach,
         emitted: frame.emitted,
     })

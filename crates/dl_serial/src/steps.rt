@@ -1,6 +1,6 @@
-//! What each simple statement does.
+//! What each simple statement does. Each answers whether the operation goes on; how it ended is kept in the frame.
 
-ghost use Rattle.std.specs.Prelude.{◌≡◌, ◌<◌, ◌≤◌, ◌+◌, None, if◌then◌else◌, is_none, slice_get, slice_set, option_and_then};
+ghost use Rattle.std.specs.Prelude.{◌≡◌, ◌<◌, ◌≤◌, ◌+◌, None, Some, false, if◌then◌else◌, is_none, slice_get, slice_set, option_and_then};
 ghost use Rattle.std.specs.FinMap as finite;
 ghost use Rattle.dl_ir.specs.Heap.{HasStart};
 ghost use Rattle.dl_ir.specs.Meaning.{Context, State, Outcome, fault_end, field_in, object_of, step, unless_sealed, links_to};
@@ -25,6 +25,7 @@ pub fn end_of_fault(fault: Fault) -> End
 }
 
 /// What a field of an object holds.
+#[inline(always)]
 pub fn field_of(heap: &Heap, name: Name, field: u32) -> Option<Value>
     ensures { result ≡ option_and_then (λ (object : Obj). slice_get object.fields field) (finite.get heap.now.objects name) }
 {
@@ -34,11 +35,21 @@ pub fn field_of(heap: &Heap, name: Name, field: u32) -> Option<Value>
     }
 }
 
+/// Ends the operation, so that it does not go on.
+pub fn end_with(frame: &mut Frame, end: End) -> bool
+    ensures frame { frame.new ≡ record frame.old { end = Some end } }
+    ensures goes_on { result ≡ false }
+{
+    frame.end = Some(end);
+    false
+}
+
 fn set_local(frame: &mut Frame, x: u32, value: Value)
     ensures locals { frame.new.locals.items ≡ slice_set frame.old.locals.items x value }
     ensures turns { frame.new.turns ≡ frame.old.turns }
     ensures made { frame.new.made ≡ frame.old.made }
     ensures emitted { frame.new.emitted ≡ frame.old.emitted }
+    ensures end { frame.new.end ≡ frame.old.end }
 {
     if (x as usize) < frame.locals.len() {
         frame.locals[x as usize] = value;
@@ -46,32 +57,36 @@ fn set_local(frame: &mut Frame, x: u32, value: Value)
 }
 
 /// `x = e;`
-pub fn run_set_int(x: u32, e: &Expr, frame: &mut Frame, heap: &Heap) -> Option<End>
-    ensures gives { (cx : Context) → step cx (Stmt-F.SetInt x e.now) (state_of frame.old heap.now) ≡ record { state = state_of frame.new heap.now; end = result } }
+pub fn run_set_int(x: u32, e: &Expr, frame: &mut Frame, heap: &Heap) -> bool
+    requires going { frame.old.end ≡ None }
+    ensures result { result ≡ is_none frame.new.end }
+    ensures gives { (cx : Context) → step cx (Stmt-F.SetInt x e.now) (state_of frame.old heap.now) ≡ record { state = state_of frame.new heap.now; end = frame.new.end } }
     ensures turns { frame.new.turns ≡ frame.old.turns }
     ensures made { frame.new.made ≡ frame.old.made }
 {
     match evaluate(e, &frame.locals) {
         Ok(n) => {
             set_local(frame, x, Value::Int(n));
-            None
+            true
         }
-        Err(fault) => Some(end_of_fault(fault)),
+        Err(fault) => end_with(frame, end_of_fault(fault)),
     }
 }
 
 /// `x = p.f;`, where the field holds a number
-pub fn run_load(x: u32, p: u32, f: u32, frame: &mut Frame, heap: &Heap) -> Option<End>
-    ensures gives { (cx : Context) → step cx (Stmt-F.Load x p f) (state_of frame.old heap.now) ≡ record { state = state_of frame.new heap.now; end = result } }
+pub fn run_load(x: u32, p: u32, f: u32, frame: &mut Frame, heap: &Heap) -> bool
+    requires going { frame.old.end ≡ None }
+    ensures result { result ≡ is_none frame.new.end }
+    ensures gives { (cx : Context) → step cx (Stmt-F.Load x p f) (state_of frame.old heap.now) ≡ record { state = state_of frame.new heap.now; end = frame.new.end } }
     ensures turns { frame.new.turns ≡ frame.old.turns }
     ensures made { frame.new.made ≡ frame.old.made }
 {
     match target_at(&frame.locals, p) {
-        None => Some(End::Null),
+        None => end_with(frame, End::Null),
         Some(name) => {
             let n = number_held(field_of(heap, name, f));
             set_local(frame, x, Value::Int(n));
-            None
+            true
         }
     }
 }
@@ -86,19 +101,23 @@ fn number_held(held: Option<Value>) -> i64
 }
 
 /// `p.f = e;`
-pub fn run_store(p: u32, f: u32, e: &Expr, frame: &Frame, heap: &mut Heap) -> Option<End>
-    ensures gives { (cx : Context) → step cx (Stmt-F.Store p f e.now) (state_of frame.now heap.old) ≡ record { state = state_of frame.now heap.new; end = result } }
+pub fn run_store(p: u32, f: u32, e: &Expr, frame: &mut Frame, heap: &mut Heap) -> bool
+    requires going { frame.old.end ≡ None }
+    ensures result { result ≡ is_none frame.new.end }
+    ensures gives { (cx : Context) → step cx (Stmt-F.Store p f e.now) (state_of frame.old heap.old) ≡ record { state = state_of frame.new heap.new; end = frame.new.end } }
+    ensures turns { frame.new.turns ≡ frame.old.turns }
+    ensures made { frame.new.made ≡ frame.old.made }
     ensures len { finite.len heap.new.objects ≡ finite.len heap.old.objects }
     ensures grows { Grows heap.old.objects heap.new.objects 0 0 }
     ensures room { heap.new.room ≡ heap.old.room }
 {
     match evaluate(e, &frame.locals) {
-        Err(fault) => Some(end_of_fault(fault)),
+        Err(fault) => end_with(frame, end_of_fault(fault)),
         Ok(n) => match target_at(&frame.locals, p) {
-            None => Some(End::Null),
+            None => end_with(frame, End::Null),
             Some(name) => {
                 heap.set_field(name, f as usize, Value::Int(n));
-                None
+                true
             }
         },
     }
@@ -106,7 +125,9 @@ pub fn run_store(p: u32, f: u32, e: &Expr, frame: &Frame, heap: &mut Heap) -> Op
 
 /// `p = q;`
 pub fn run_copy(p: u32, q: u32, frame: &mut Frame, heap: &Heap)
-    ensures gives { (cx : Context) → step cx (Stmt-F.Copy p q) (state_of frame.old heap.now) ≡ record { state = state_of frame.new heap.now; end = None } }
+    requires going { frame.old.end ≡ None }
+    ensures going { frame.new.end ≡ None }
+    ensures gives { (cx : Context) → step cx (Stmt-F.Copy p q) (state_of frame.old heap.now) ≡ record { state = state_of frame.new heap.now; end = frame.new.end } }
     ensures turns { frame.new.turns ≡ frame.old.turns }
     ensures made { frame.new.made ≡ frame.old.made }
 {
@@ -116,7 +137,9 @@ pub fn run_copy(p: u32, q: u32, frame: &mut Frame, heap: &Heap)
 
 /// `p = null;`
 pub fn run_null(p: u32, frame: &mut Frame, heap: &Heap)
-    ensures gives { (cx : Context) → step cx (Stmt-F.Null p) (state_of frame.old heap.now) ≡ record { state = state_of frame.new heap.now; end = None } }
+    requires going { frame.old.end ≡ None }
+    ensures going { frame.new.end ≡ None }
+    ensures gives { (cx : Context) → step cx (Stmt-F.Null p) (state_of frame.old heap.now) ≡ record { state = state_of frame.new heap.now; end = frame.new.end } }
     ensures turns { frame.new.turns ≡ frame.old.turns }
     ensures made { frame.new.made ≡ frame.old.made }
 {
@@ -124,20 +147,24 @@ pub fn run_null(p: u32, frame: &mut Frame, heap: &Heap)
 }
 
 /// `p = q.f;`, where the field holds a reference
-pub fn run_follow(p: u32, q: u32, f: u32, frame: &mut Frame, heap: &Heap) -> Option<End>
-    ensures gives { (cx : Context) → step cx (Stmt-F.Follow p q f) (state_of frame.old heap.now) ≡ record { state = state_of frame.new heap.now; end = result } }
+pub fn run_follow(p: u32, q: u32, f: u32, frame: &mut Frame, heap: &Heap) -> bool
+    requires going { frame.old.end ≡ None }
+    ensures result { result ≡ is_none frame.new.end }
+    ensures gives { (cx : Context) → step cx (Stmt-F.Follow p q f) (state_of frame.old heap.now) ≡ record { state = state_of frame.new heap.now; end = frame.new.end } }
     ensures turns { frame.new.turns ≡ frame.old.turns }
     ensures made { frame.new.made ≡ frame.old.made }
 {
     match target_at(&frame.locals, q) {
-        None => Some(End::Null),
+        None => end_with(frame, End::Null),
         Some(name) => {
             let target = target_held(field_of(heap, name, f));
-            let sealed = sealed_end(heap, target);
-            if sealed.is_none() {
-                set_local(frame, p, Value::Ref(target));
+            match sealed_end(heap, target) {
+                Some(sealed) => end_with(frame, sealed),
+                None => {
+                    set_local(frame, p, Value::Ref(target));
+                    true
+                }
             }
-            sealed
         }
     }
 }
@@ -150,18 +177,20 @@ pub fn run_new(
     kind: u32,
     frame: &mut Frame,
     heap: &mut Heap,
-) -> Option<End>
+) -> bool
     requires start { HasStart source.now }
     requires ticket { 0 < task.ticket }
     requires room { HasRoom task frame.old heap.old }
-    ensures gives { step (context_of source.now task) (Stmt-F.New p kind) (state_of frame.old heap.old) ≡ record { state = state_of frame.new heap.new; end = result } }
+    requires going { frame.old.end ≡ None }
+    ensures result { result ≡ is_none frame.new.end }
+    ensures gives { step (context_of source.now task) (Stmt-F.New p kind) (state_of frame.old heap.old) ≡ record { state = state_of frame.new heap.new; end = frame.new.end } }
     ensures turns { frame.new.turns ≡ frame.old.turns }
     ensures room { HasRoom task frame.new heap.new }
     ensures same_room { heap.new.room ≡ heap.old.room }
     ensures grows { Grows heap.old.objects heap.new.objects frame.old.made frame.new.made }
 {
     if frame.made >= task.allocs {
-        return Some(End::Quota);
+        return end_with(frame, End::Quota);
     }
     frame.made += 1;
     let name = Name {
@@ -170,41 +199,91 @@ pub fn run_new(
     };
     heap.put(name, new_object(source, kind));
     set_local(frame, p, Value::Ref(Some(name)));
-    None
+    true
 }
 
-/// `q.f = p;`, where the field holds a reference, and `q.f = null;`, by the target that the field gets
-pub fn run_link(q: u32, f: u32, target: Option<Name>, frame: &Frame, heap: &mut Heap) -> Option<End>
-    ensures gives { links_to q f target (state_of frame.now heap.old) ≡ record { state = state_of frame.now heap.new; end = result } }
+/// `q.f = p;`, where the field holds a reference
+pub fn run_link(q: u32, f: u32, p: u32, frame: &mut Frame, heap: &mut Heap) -> bool
+    requires going { frame.old.end ≡ None }
+    ensures result { result ≡ is_none frame.new.end }
+    ensures gives { (cx : Context) → step cx (Stmt-F.Link q f p) (state_of frame.old heap.old) ≡ record { state = state_of frame.new heap.new; end = frame.new.end } }
+    ensures turns { frame.new.turns ≡ frame.old.turns }
+    ensures made { frame.new.made ≡ frame.old.made }
+    ensures len { finite.len heap.new.objects ≡ finite.len heap.old.objects }
+    ensures grows { Grows heap.old.objects heap.new.objects 0 0 }
+    ensures room { heap.new.room ≡ heap.old.room }
+{
+    let target = target_at(&frame.locals, p);
+    link(q, f, target, frame, heap)
+}
+
+/// `q.f = null;`
+pub fn run_cut(q: u32, f: u32, frame: &mut Frame, heap: &mut Heap) -> bool
+    requires going { frame.old.end ≡ None }
+    ensures result { result ≡ is_none frame.new.end }
+    ensures gives { (cx : Context) → step cx (Stmt-F.Cut q f) (state_of frame.old heap.old) ≡ record { state = state_of frame.new heap.new; end = frame.new.end } }
+    ensures turns { frame.new.turns ≡ frame.old.turns }
+    ensures made { frame.new.made ≡ frame.old.made }
+    ensures len { finite.len heap.new.objects ≡ finite.len heap.old.objects }
+    ensures grows { Grows heap.old.objects heap.new.objects 0 0 }
+    ensures room { heap.new.room ≡ heap.old.room }
+{
+    link(q, f, None, frame, heap)
+}
+
+// Writes a reference into a field, by the target that the field gets.
+#[inline(always)]
+fn link(q: u32, f: u32, target: Option<Name>, frame: &mut Frame, heap: &mut Heap) -> bool
+    requires going { frame.old.end ≡ None }
+    ensures result { result ≡ is_none frame.new.end }
+    ensures gives { links_to q f target (state_of frame.old heap.old) ≡ record { state = state_of frame.new heap.new; end = frame.new.end } }
+    ensures turns { frame.new.turns ≡ frame.old.turns }
+    ensures made { frame.new.made ≡ frame.old.made }
     ensures len { finite.len heap.new.objects ≡ finite.len heap.old.objects }
     ensures grows { Grows heap.old.objects heap.new.objects 0 0 }
     ensures room { heap.new.room ≡ heap.old.room }
 {
     match target_at(&frame.locals, q) {
-        None => Some(End::Null),
-        Some(name) => {
-            let sealed = sealed_end_at(heap, name, f);
-            if sealed.is_none() {
+        None => end_with(frame, End::Null),
+        Some(name) => match sealed_end_at(heap, name, f) {
+            Some(sealed) => end_with(frame, sealed),
+            None => {
                 heap.set_field(name, f as usize, Value::Ref(target));
+                true
             }
-            sealed
-        }
+        },
     }
 }
 
 /// `emit e;`
-pub fn run_emit(e: &Expr, frame: &mut Frame, heap: &Heap) -> Option<End>
-    ensures gives { (cx : Context) → step cx (Stmt-F.Emit e.now) (state_of frame.old heap.now) ≡ record { state = state_of frame.new heap.now; end = result } }
+pub fn run_emit(e: &Expr, frame: &mut Frame, heap: &Heap) -> bool
+    requires going { frame.old.end ≡ None }
+    ensures result { result ≡ is_none frame.new.end }
+    ensures gives { (cx : Context) → step cx (Stmt-F.Emit e.now) (state_of frame.old heap.now) ≡ record { state = state_of frame.new heap.now; end = frame.new.end } }
     ensures turns { frame.new.turns ≡ frame.old.turns }
     ensures made { frame.new.made ≡ frame.old.made }
 {
     match evaluate(e, &frame.locals) {
-        Err(fault) => Some(end_of_fault(fault)),
-        Ok(_) if frame.emitted.is_full() => Some(End::Emits),
+        Err(fault) => end_with(frame, end_of_fault(fault)),
+        Ok(_) if frame.emitted.is_full() => end_with(frame, End::Emits),
         Ok(n) => {
             frame.emitted.push(n);
-            None
+            true
         }
+    }
+}
+
+/// `return e;`
+pub fn run_return(e: &Expr, frame: &mut Frame, heap: &Heap) -> bool
+    requires going { frame.old.end ≡ None }
+    ensures result { result ≡ is_none frame.new.end }
+    ensures gives { (cx : Context) → step cx (Stmt-F.Return e.now) (state_of frame.old heap.now) ≡ record { state = state_of frame.new heap.now; end = frame.new.end } }
+    ensures turns { frame.new.turns ≡ frame.old.turns }
+    ensures made { frame.new.made ≡ frame.old.made }
+{
+    match evaluate(e, &frame.locals) {
+        Ok(n) => end_with(frame, End::Ok(n)),
+        Err(fault) => end_with(frame, end_of_fault(fault)),
     }
 }
 

@@ -1,4 +1,4 @@
-use Rattle.std.proofs.Common.{◌≡◌, ◌≤◌, ℕ, drop, map}
+use Rattle.std.proofs.Common.{◌≡◌, ◌≤◌, ℕ, None, drop, map}
 use Rattle.dl_ir.specs.Meaning.{does, block_does, loops, in_turn}
 use Rattle.dl_serial.specs.Frames.{state_of, context_of, HasRoom}
 use Rattle.dl_serial.specs.Growth.{Grows}
@@ -10,6 +10,7 @@ invariant-run_block-loop-s l = record {
   turns : l.frame.turns ≤ l.fn.frame.turns;
   room : HasRoom l.task l.frame l.heap;
   same_room : l.heap.room ≡ l.fn.heap.room;
+  end : l.frame.end ≡ None;
   grows : Grows l.fn.heap.objects l.heap.objects l.fn.frame.made l.frame.made;
 }
 
@@ -19,6 +20,7 @@ invariant-run_loop-loop-frame l = record {
   turns : l.frame.turns ≤ l.fn.frame.turns;
   room : HasRoom l.task l.frame l.heap;
   same_room : l.heap.room ≡ l.fn.heap.room;
+  end : l.frame.end ≡ None;
   grows : Grows l.fn.heap.objects l.heap.objects l.fn.frame.made l.frame.made;
 }
 
