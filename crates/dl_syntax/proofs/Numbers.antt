@@ -2,8 +2,9 @@
 use Rattle.std.proofs.Common.{◌≡◌, ℕ, suc, ◌+◌, ◌-◌, ◌*◌, ◌<◌, Bool, true, false, nat_le, List, [], ◌∷◌, ◌++◌, length, get_or, drop, drop-cons, refl, ap, ◌∙◌, sym, arith, Option, Some, None, append_assoc}
 use Rattle.std.specs.Prelude.{ℤ}
 use Rattle.std.proofs.lemmas.Bool.Decides.{nat_tests}
+use Rattle.std.proofs.lemmas.Option.{same_Some}
 use Rattle.dl_text.specs.Bytes.{is_digit}
-use Rattle.dl_syntax.specs.Line.{digits_from, digits_of, at_most, with_number}
+use Rattle.dl_syntax.specs.Line.{digits_from, digits_of, at_most, number_of, numbers_of, with_number}
 
 -- one digit more
 digits_step : (n i : ℕ) (digits : List ℕ) → i < length digits → is_digit (get_or digits i 0) ≡ true
@@ -39,3 +40,15 @@ onto_number found n None = refl
 -- no number at a word, so none at all
 pub onto_none : (found : List ℤ) (more : Option (List ℤ)) → onto found (with_number None more) ≡ None
 onto_none found more = refl
+
+-- there is one more number where there is one more word
+one_more : (n : Option ℤ) (more : Option (List ℤ)) (ns : List ℤ) (count : ℕ) → ((ms : List ℤ) → more ≡ Some ms → length ms ≡ count)
+    → with_number n more ≡ Some ns → length ns ≡ suc count
+one_more (Some n) (Some ms) ns count counted e = ap length (sym (same_Some _ _ e)) ∙ ap suc (counted ms refl)
+one_more (Some n) None ns count counted e = let clash : None ≡ Some ns = e in absurd (cc)
+one_more None more ns count counted e = let clash : None ≡ Some ns = e in absurd (cc)
+
+-- where each word says a number, there are as many numbers as words
+pub as_many : (words : List (List ℕ)) (ns : List ℤ) → numbers_of words ≡ Some ns → length ns ≡ length words
+as_many [] ns e = ap length (sym (same_Some _ _ e))
+as_many (word ∷ words) ns e = one_more (number_of word) (numbers_of words) ns (length words) (as_many words) e

@@ -90,6 +90,7 @@ fn op_named(source: &Module, name: &[u8]) -> Option<usize>
 }
 
 /// The call of an operation with the words as its arguments.
+#[tactic(auto, using(crate::proofs::Numbers::as_many))]
 fn call_of_op(
     alloc: Global,
     source: &Module,
@@ -103,12 +104,15 @@ fn call_of_op(
     let Some(decl) = source.ops.get(op) else {
         return Err(CallsFault::NoOp { line });
     };
-    if count_words(words) != decl.params.len() {
-        return Err(CallsFault::ArgCount { line });
-    }
     let Some(args) = numbers(alloc, decl.params.len(), words)? else {
+        if count_words(words) != decl.params.len() {
+            return Err(CallsFault::ArgCount { line });
+        }
         return Err(CallsFault::NotNumber { line });
     };
+    if args.len() != decl.params.len() {
+        return Err(CallsFault::ArgCount { line });
+    }
     if !all_fit(source, decl.params.as_slice(), args.as_slice()) {
         return Err(CallsFault::NoRoot { line });
     }
