@@ -1,7 +1,7 @@
 //! The objects of a heap with what is counted and filed beside them.
 
 ghost use Rattle.std.specs.Prelude.{◌≡◌, ◌&&◌, ◌↔◌, ◌+◌, ◌^◌, ◌<◌, ◌≤◌, ℕ, true, false, Some, None, IfOk, IsTrue, OnSome, length, count_by, ◌∷◌, [], nat_lt, slice_get, option_and_then, if◌then◌else◌};
-ghost use Rattle.std.specs.Option.{option_copied, option_map};
+ghost use Rattle.std.specs.Option.{option_map};
 ghost use Rattle.std.specs.Ordering.{eq_by_cmp};
 ghost use Rattle.std.specs.FinMap as map;
 ghost use Rattle.dl_ir.specs.Census.{open_at, marked, with_count, IsFiled, Gains, Loses, AreThere};
@@ -17,6 +17,7 @@ use crate::names::{Name, Value};
 use crate::objects::{Fields, Obj};
 use crate::rows::Row;
 use crate::tables::Table;
+use crate::views::ObjRef;
 use std::alloc::{AllocError, Global};
 use std::marker::Model;
 
@@ -55,11 +56,11 @@ impl Census {
 
     /// The object with this name, if there is one.
     #[inline(always)]
-    pub fn get(&self, name: Name) -> Option<&Obj>
-        ensures { option_copied result ≡ map.get self.now.objects.rows name }
+    pub fn get(&self, name: Name) -> Option<ObjRef<'_>>
+        ensures { result ≡ map.get self.now.objects.rows name }
     {
         match self.rows.get(name) {
-            Some(row) => Some(&row.object),
+            Some(row) => Some(row.object.view()),
             None => None,
         }
     }

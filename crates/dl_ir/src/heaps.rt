@@ -1,7 +1,6 @@
 //! The heap: objects under their names, with what settling has to know of them at hand.
 
 ghost use Rattle.std.specs.Prelude.{◌≡◌, ℕ, false, [], ◌∷◌, ◌+◌, ◌^◌, ◌<◌, ◌≤◌, ◌↔◌, IsTrue, IfOk, OnOk, Some, length, slice_get, count_by, None, if◌then◌else◌};
-ghost use Rattle.std.specs.Option.{option_copied};
 ghost use Rattle.std.specs.List.{AllByRecursion};
 ghost use Rattle.std.specs.FinMap as map;
 ghost use Rattle.dl_ir.specs.Heap.{Objects, hidden_count, with_field, blank_object, roots_from, roots_of, start_objects, StandInRow, HasStart, IsHeapOf};
@@ -17,7 +16,8 @@ use crate::census::Census;
 use crate::iterators::HeapIter;
 use crate::modules::{KindDecl, Module};
 use crate::names::{Name, Value};
-use crate::objects::{Fields, Obj};
+use crate::objects::Obj;
+use crate::views::{FieldsRef, ObjRef};
 use std::alloc::{AllocError, Global};
 use std::marker::Model;
 
@@ -79,8 +79,8 @@ impl Heap {
 
     /// The object with this name, if there is one.
     #[inline(always)]
-    pub fn get(&self, name: Name) -> Option<&Obj>
-        ensures { option_copied result ≡ map.get self.now.objects name }
+    pub fn get(&self, name: Name) -> Option<ObjRef<'_>>
+        ensures { result ≡ map.get self.now.objects name }
     {
         self.census.get(name)
     }
@@ -93,7 +93,7 @@ impl Heap {
             return false;
         }
         match self.census.get(name) {
-            Some(object) => object.sealed,
+            Some(object) => object.is_sealed(),
             None => false,
         }
     }
@@ -159,7 +159,7 @@ impl Heap {
     {
         let refs = self.refs_to_absent(name);
         let there = self.census.gain_all(&object.fields);
-        let own = count_in(&object.fields, name);
+        let own = count_in(&object.fields.view(), name);
         self.has_sealed |= object.sealed;
         self.census.enter(name, object, refs + own);
         self.may_dangle |= !there;
@@ -265,13 +265,13 @@ fn fields_that_refer(census: &Census, name: Name) -> u64
 {
     let mut count = 0;
     for (_, object) in census.iter() {
-        count += count_in(&object.fields, name);
+        count += count_in(&object.fields(), name);
     }
     count
 }
 
 // The number of these fields that refer to this name.
-fn count_in(fields: &Fields, name: Name) -> u64
+fn count_in(fields: &FieldsRef<'_>, name: Name) -> u64
     ensures { result ≡ count_by (refers_to name) fields.now }
 {
     let mut count = 0;

@@ -4,8 +4,8 @@ ghost use Rattle.std.specs.Prelude.{◌≡◌};
 
 use crate::cells::{Cell, value_of};
 use crate::names::{Name, Value};
-use crate::objects::Obj;
 use crate::rows::Row;
+use crate::views::ObjRef;
 use std::marker::Model;
 
 /// The names of a table with their values, in the order of names.
@@ -66,15 +66,15 @@ impl<'a> Iterator for HeapIter<'a> {
     ghost use Rattle.std.specs.Prelude.{length};
     ghost use Rattle.std.specs.Iterator.{YieldsFirstBy, at_most};
 
-    type Item = (Name, &'a Obj);
+    type Item = (Name, ObjRef<'a>);
 
-    ghost next_gives = { YieldsFirstBy (λ entry. (entry.0, entry.1.now)) (λ iter. iter) };
+    ghost next_gives = { YieldsFirstBy (λ entry. entry) (λ iter. iter) };
 
     ghost remaining = { λ iter. at_most (length iter) };
 
-    fn next(&mut self) -> Option<(Name, &'a Obj)> {
+    fn next(&mut self) -> Option<(Name, ObjRef<'a>)> {
         match self.rows.next() {
-            Some((name, row)) => Some((name, &row.object)),
+            Some((name, row)) => Some((name, row.object.view())),
             None => None,
         }
     }
@@ -83,17 +83,18 @@ impl<'a> Iterator for HeapIter<'a> {
 /// The values of an object's fields, in order.
 #[derive(Drop)]
 pub struct FieldsIter<'a> {
-    pub(crate) left: &'a [Cell],
+    pub(crate) near: &'a [Cell],
+    pub(crate) far: &'a [Cell],
 }
 
 impl<'a> Model for FieldsIter<'a> {
-    ghost use Rattle.std.specs.Prelude.{List, map};
+    ghost use Rattle.std.specs.Prelude.{List, map, ◌++◌};
     ghost use Rattle.dl_ir.specs.declared.names.Value.{Value as Held};
     ghost use Rattle.dl_ir.specs.Cells.{value_in};
 
     ghost Value = { List Held };
 
-    ghost view = { λ iter. map value_in iter.left.now };
+    ghost view = { λ iter. map value_in (iter.near.now ++ iter.far.now) };
 }
 
 impl<'a> Iterator for FieldsIter<'a> {
@@ -107,12 +108,14 @@ impl<'a> Iterator for FieldsIter<'a> {
     ghost remaining = { λ iter. at_most (length iter) };
 
     fn next(&mut self) -> Option<Value> {
-        match self.left {
-            [first, rest @ ..] => {
-                self.left = rest;
-                Some(value_of(*first))
-            }
-            [] => None,
+        if let [first, rest @ ..] = self.near {
+            self.near = rest;
+            return Some(value_of(*first));
         }
+        if let [first, rest @ ..] = self.far {
+            self.far = rest;
+            return Some(value_of(*first));
+        }
+        None
     }
 }

@@ -20,6 +20,7 @@ mod objects;
 mod rows;
 mod statements;
 mod tables;
+mod views;
 
 pub use answers::{Answer, End, Entry, Fault, Refusal};
 pub use calls::{Call, Calls};
@@ -34,3 +35,4 @@ pub use names::{Name, Value};
 pub use objects::{Fields, Obj};
 pub use statements::{Block, Stmt};
 pub use tables::Table;
+pub use views::{FieldsRef, ObjRef};

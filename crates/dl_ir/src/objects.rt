@@ -8,6 +8,7 @@ use crate::cells::{Cell, cell_of, value_of};
 use crate::iterators::FieldsIter;
 use crate::modules::{FieldDecl, KindDecl, Ty};
 use crate::names::Value;
+use crate::views::{FieldsRef, ObjRef};
 use std::marker::Model;
 
 /// The values of an object's fields, at most 16, in the order of declaration. They take no memory of their own.
@@ -103,7 +104,20 @@ impl Fields {
         ensures value { result ≡ self.now }
         ensures few { length result ≤ 16 }
     {
-        FieldsIter { left: self.held() }
+        FieldsIter {
+            near: self.held(),
+            far: &[],
+        }
+    }
+
+    /// The values as a heap shows those of an object.
+    pub fn view(&self) -> FieldsRef<'_>
+        ensures { result ≡ self.now }
+    {
+        FieldsRef {
+            near: self.held(),
+            far: &[],
+        }
     }
 
     // The cells that hold a value.
@@ -145,6 +159,18 @@ impl Obj {
             kind,
             sealed: false,
             fields: Fields::blank(declared.fields.as_slice()),
+        }
+    }
+
+    /// The object as a heap shows it.
+    pub(crate) fn view(&self) -> ObjRef<'_>
+        ensures { result ≡ self.now }
+    {
+        ObjRef {
+            kind: self.kind,
+            sealed: self.sealed,
+            near: self.fields.held(),
+            far: &[],
         }
     }
 }

@@ -11,7 +11,7 @@ overflow_add-hidden c =
     let test = λ (e : Name × Obj). nat_lt 0 e.0.ticket in
     let es = entries c.args.census.now.objects.rows in
     let one = λ (e : Name × Obj). cond (test e) 1 0 in
-    let here = ap (count_by test) c.in-Some.ensures.steps ∙ sum_by-cons one (c.in-Some.name, c.in-Some.field-0-1.now) c.next.new.self in
+    let here = ap (count_by test) c.in-Some.ensures.steps ∙ sum_by-cons one (c.in-Some.name, c.in-Some.field-0-1) c.next.new.self in
     omega (arith, here, c.one_if-hidden.ensures, c.loop-name.invariant, count_by-le-length test es, len-entries c.args.census.now.objects.rows, c.requires)
 
 pub returns : goal.returns

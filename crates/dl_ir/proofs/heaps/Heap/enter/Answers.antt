@@ -15,7 +15,7 @@ invariant_of-self c =
           c.enter.new.self c.gain_all-there.new.self.counts.rows c.gain_all-there.result
           (rw (c.enter.ensures.objects, c.gain_all-there.ensures.objects) refl) c.enter.ensures.filed
           c.gain_all-there.ensures.counts
-          (rw (c.count_in-own.ensures, c.refs_to_absent-refs.ensures.count, ← c.self.view_is) at c.enter.ensures.counts)
+          (rw (c.count_in-own.ensures, c.view.ensures, c.refs_to_absent-refs.ensures.count, ← c.self.view_is) at c.enter.ensures.counts)
           c.gain_all-there.ensures.there;
       seals = λ none.
           let split = either c.self.inside.has_sealed c.args.object.sealed none in
