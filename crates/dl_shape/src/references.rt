@@ -9,7 +9,7 @@ ghost use Rattle.dl_shape.specs.References.{refs, IsForest};
 ghost use Rattle.dl_shape.specs.Settling.{is_open, is_shared};
 ghost use Rattle.dl_shape.specs.Forests.{names_root, stands_in_forest};
 
-use dl_ir::{Fields, Heap, Name, Obj, Value};
+use dl_ir::{FieldsRef, Heap, Name, ObjRef, Value};
 
 /// The number of fields of the heap that refer to the object of this name. The heap's objects have together at
 /// most 4,294,967,295 fields.
@@ -26,7 +26,7 @@ pub fn has_countable_fields(heap: &Heap) -> bool
 {
     let mut total: usize = 0;
     for (_, object) in heap.iter() {
-        total = total.saturating_add(object.fields.len());
+        total = total.saturating_add(object.fields().len());
     }
     total < 4_294_967_296
 }
@@ -36,7 +36,7 @@ pub fn is_forest(heap: &Heap) -> bool
     ensures { IsTrue result ↔ IsForest heap.now.objects }
 {
     for (name, object) in heap.iter() {
-        if !stands_in_forest(heap, name, object) {
+        if !stands_in_forest(heap, name, &object) {
             return false;
         }
     }
@@ -44,14 +44,14 @@ pub fn is_forest(heap: &Heap) -> bool
 }
 
 // Whether no field of the object refers to a root, and it is not shared.
-fn stands_in_forest(heap: &Heap, name: Name, object: &Obj) -> bool
+fn stands_in_forest(heap: &Heap, name: Name, object: &ObjRef<'_>) -> bool
     ensures { result ≡ stands_in_forest heap.now.objects (name, object.now) }
 {
-    !refers_to_root(&object.fields) && !is_shared(heap, name, object)
+    !refers_to_root(&object.fields()) && !is_shared(heap, name, object)
 }
 
 // Whether one of these fields refers to a root.
-fn refers_to_root(fields: &Fields) -> bool
+fn refers_to_root(fields: &FieldsRef<'_>) -> bool
     ensures { result ≡ list_any names_root fields.now }
 {
     for value in fields.iter() {
@@ -72,14 +72,14 @@ fn names_root(value: Value) -> bool
 }
 
 // Whether an object is hidden and unsealed, and two fields or more refer to it.
-fn is_shared(heap: &Heap, name: Name, object: &Obj) -> bool
+fn is_shared(heap: &Heap, name: Name, object: &ObjRef<'_>) -> bool
     ensures { result ≡ is_shared heap.now.objects (name, object.now) }
 {
     is_open(name, object) && heap.refs(name) >= 2
 }
 
-fn is_open(name: Name, object: &Obj) -> bool
+fn is_open(name: Name, object: &ObjRef<'_>) -> bool
     ensures { result ≡ is_open (name, object.now) }
 {
-    name.ticket > 0 && !object.sealed
+    name.ticket > 0 && !object.is_sealed()
 }

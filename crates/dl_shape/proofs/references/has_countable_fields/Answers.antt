@@ -9,8 +9,8 @@ use Rattle.dl_shape.proofs.references.has_countable_fields.Goals as goal
 pub loop-object-preserved : goal.loop-object-preserved
 loop-object-preserved c =
     let lengths = λ (e : Name × Obj). length e.1.fields in
-    let here = ap (sum_by lengths) c.in-Some.ensures.steps ∙ sum_by-cons lengths (c.in-Some.field-0-0, c.in-Some.object.now) c.next.new.self in
-    omega (arith, here, c.len.ensures, c.saturating_add-total.ensures, c.loop-object.invariant)
+    let here = ap (sum_by lengths) c.in-Some.ensures.steps ∙ sum_by-cons lengths (c.in-Some.field-0-0, c.in-Some.object) c.next.new.self in
+    omega (arith, here, c.len.ensures.value ∙ ap length c.fields.ensures.value, c.saturating_add-total.ensures, c.loop-object.invariant)
 
 pub returns : goal.returns
 returns c =
