@@ -1,5 +1,5 @@
 -- Values in cells.
-use Rattle.std.proofs.Common.{◌≡◌, ℕ, zero, suc, List, [], ◌∷◌, map, set, take, Some, None, refl, ap}
+use Rattle.std.proofs.Common.{◌≡◌, ◌≤◌, ℕ, zero, suc, List, [], ◌∷◌, length, map, set, take, Some, None, refl, ap, arith}
 use Rattle.dl_ir.specs.declared.cells.Cell.{Cell}
 use Rattle.dl_ir.specs.declared.names.Value.{Value}
 use Rattle.dl_ir.specs.declared.names.Value.TheVariants.{Int, Ref}
@@ -17,3 +17,9 @@ take-set-in zero l i v = refl
 take-set-in (suc n) [] i v = refl
 take-set-in (suc n) (x ∷ l) zero v = ap (λ w. w ∷ map value_in (take n l)) (same_value v)
 take-set-in (suc n) (x ∷ l) (suc i) v = ap (λ (r : List Value). value_in x ∷ r) (take-set-in n l i v)
+
+-- the first cells have at most so many values
+pub take-few : (n : ℕ) (l : List Cell) → length (map value_in (take n l)) ≤ n
+take-few zero l = omega arith
+take-few (suc n) [] = omega arith
+take-few (suc n) (x ∷ l) = omega (arith, take-few n l)

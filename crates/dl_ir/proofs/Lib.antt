@@ -3,6 +3,7 @@ mod Edits
 mod SortedEntries
 mod Falling
 mod Filing
+mod Joining
 pub mod Keeping
 pub mod Lookups
 mod CountedEdits

@@ -1,5 +1,5 @@
 -- How the values of fields lie in cells.
-use Rattle.std.specs.Prelude.{Some, None}
+use Rattle.std.specs.Prelude.{◌≡◌, ◌<◌, ◌≤◌, List, [], Some, None, length}
 use Rattle.dl_ir.specs.declared.cells.Cell.{Cell}
 use Rattle.dl_ir.specs.declared.cells.Cell.TheVariants as cells
 use Rattle.dl_ir.specs.declared.names.Value.{Value}
@@ -16,3 +16,8 @@ abbrev pub cell_of : Value → Cell
 cell_of (Int number) = cells.Int number
 cell_of (Ref None) = cells.Null
 cell_of (Ref (Some name)) = cells.Ref name.index name.ticket
+
+-- The first values are at most four, and behind fewer there are no others.
+pub record IsSplit (near far : List Value) : Type 0 where
+  pub few : length near ≤ 4
+  pub rest : length near < 4 → far ≡ []

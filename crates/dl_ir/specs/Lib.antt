@@ -7,6 +7,7 @@ pub mod Counted
 pub mod Cover
 pub mod Evaluation
 pub mod Heap
+pub mod Joined
 pub mod Mapped
 pub mod Marks
 pub mod Meaning

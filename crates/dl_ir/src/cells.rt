@@ -7,7 +7,7 @@ use crate::names::{Name, Value};
 
 /// The value of a field, in half of the memory that a `Value` takes.
 #[derive(Clone, Copy, Debug)]
-pub(crate) enum Cell {
+pub enum Cell {
     Int(i64),
     Null,
     // The index comes first, so that it lies beside the number of the variant.

@@ -16,7 +16,7 @@ use crate::marks::Marks;
 use crate::names::{Name, Value};
 use crate::objects::{Fields, Obj};
 use crate::rows::Row;
-use crate::tables::Table;
+use crate::stores::Store;
 use crate::views::ObjRef;
 use std::alloc::{AllocError, Global};
 use std::marker::Model;
@@ -25,7 +25,7 @@ use std::marker::Model;
 /// the loose ones, to which no field refers, and the shared ones, to which two or more do.
 #[derive(Drop)]
 pub struct Census {
-    rows: Table<Row>,
+    rows: Store,
     loose: Marks,
     shared: Marks,
 }
@@ -48,7 +48,7 @@ impl Census {
         ensures filed { IfOk result IsFiled }
     {
         Ok(Census {
-            rows: Table::new(alloc, room)?,
+            rows: Store::new(alloc, room)?,
             loose: Marks::new(alloc, room)?,
             shared: Marks::new(alloc, room)?,
         })
@@ -59,10 +59,7 @@ impl Census {
     pub fn get(&self, name: Name) -> Option<ObjRef<'_>>
         ensures { result ≡ map.get self.now.objects.rows name }
     {
-        match self.rows.get(name) {
-            Some(row) => Some(row.object.view()),
-            None => None,
-        }
+        self.rows.get(name)
     }
 
     /// The number of fields that refer to the object with this name, if there is one.
@@ -70,10 +67,7 @@ impl Census {
     pub fn count(&self, name: Name) -> Option<u64>
         ensures { result ≡ map.get self.now.counts.rows name }
     {
-        match self.rows.get(name) {
-            Some(row) => Some(row.refs),
-            None => None,
-        }
+        self.rows.count(name)
     }
 
     /// The least name of a loose object, if there is one.
@@ -94,9 +88,7 @@ impl Census {
     pub fn iter(&self) -> HeapIter<'_>
         ensures { result ≡ map.entries self.now.objects.rows }
     {
-        HeapIter {
-            rows: self.rows.iter(),
-        }
+        self.rows.iter()
     }
 
     /// The number of objects.
@@ -153,7 +145,7 @@ impl Census {
         ensures objects { self.new.objects ≡ record self.old.objects { rows = map.insert self.old.objects.rows name object } }
     {
         let is_open = is_open(name, object.sealed);
-        self.rows.put(name, Row { refs, object });
+        self.rows.enter(name, Row { refs, object });
         mark(&mut self.loose, name, is_open, refs == 0);
         mark(&mut self.shared, name, is_open, refs >= 2);
     }

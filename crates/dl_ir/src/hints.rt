@@ -8,6 +8,8 @@ use std::alloc::{AllocError, Global};
 #[derive(Drop)]
 pub(crate) struct Hints {
     places: Vec<u32>,
+    // How many places there are once a name has been put.
+    len: usize,
 }
 
 impl Hints {
@@ -17,7 +19,8 @@ impl Hints {
             return Err(AllocError);
         };
         Ok(Hints {
-            places: vec![in alloc; 0; len]?,
+            places: Vec::with_capacity(alloc, len)?,
+            len,
         })
     }
 
@@ -32,6 +35,9 @@ impl Hints {
 
     /// Remembers that the name was put at this place.
     pub(crate) fn note(&mut self, name: Name, at: usize) {
+        if self.places.is_empty() && self.places.resize(self.len, 0).is_err() {
+            return;
+        }
         let slot = slot(&self.places, name);
         if let Some(place) = self.places.get_mut(slot)
             && let Ok(at) = u32::try_from(at)

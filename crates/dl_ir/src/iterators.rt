@@ -4,7 +4,10 @@ ghost use Rattle.std.specs.Prelude.{◌≡◌};
 
 use crate::cells::{Cell, value_of};
 use crate::names::{Name, Value};
-use crate::rows::Row;
+use crate::parts::Far;
+use crate::rows::Head;
+use crate::stores::far_of;
+use crate::tables::Table;
 use crate::views::ObjRef;
 use std::marker::Model;
 
@@ -48,7 +51,9 @@ impl<'a, V> Iterator for TableIter<'a, V> {
 /// The names of a heap with their objects, in the order of names.
 #[derive(Drop)]
 pub struct HeapIter<'a> {
-    pub(crate) rows: TableIter<'a, Row>,
+    pub(crate) heads: TableIter<'a, Head>,
+    // The values that stand aside.
+    pub(crate) tails: &'a Table<Far>,
 }
 
 impl<'a> Model for HeapIter<'a> {
@@ -56,10 +61,11 @@ impl<'a> Model for HeapIter<'a> {
     ghost use Rattle.dl_ir.specs.declared.names.Name.{Name};
     ghost use Rattle.dl_ir.specs.declared.objects.Obj.{Obj};
     ghost use Rattle.dl_ir.specs.Counted.{objects_along};
+    ghost use Rattle.dl_ir.specs.Joined.{along};
 
     ghost Value = { List (Name × Obj) };
 
-    ghost view = { λ iter. objects_along iter.rows };
+    ghost view = { λ iter. objects_along (along iter.tails.now.rows iter.heads) };
 }
 
 impl<'a> Iterator for HeapIter<'a> {
@@ -73,8 +79,16 @@ impl<'a> Iterator for HeapIter<'a> {
     ghost remaining = { λ iter. at_most (length iter) };
 
     fn next(&mut self) -> Option<(Name, ObjRef<'a>)> {
-        match self.rows.next() {
-            Some((name, row)) => Some((name, row.object.view())),
+        match self.heads.next() {
+            Some((name, head)) => Some((
+                name,
+                ObjRef {
+                    kind: head.kind,
+                    sealed: head.sealed,
+                    near: head.near.held(),
+                    far: far_of(self.tails, name, head.wide),
+                },
+            )),
             None => None,
         }
     }

@@ -17,8 +17,10 @@ mod modules;
 mod moves;
 mod names;
 mod objects;
+mod parts;
 mod rows;
 mod statements;
+mod stores;
 mod tables;
 mod views;
 

@@ -1,38 +1,37 @@
 //! Objects and their fields.
 
-ghost use Rattle.std.specs.Prelude.{◌≡◌, [], ◌∷◌, ◌++◌, ◌<◌, ◌≤◌, length, map, slice_get, slice_set, ◌↔◌, IsTrue};
-ghost use Rattle.dl_ir.specs.Cells.{value_in};
+ghost use Rattle.std.specs.Prelude.{◌≡◌, [], ◌∷◌, ◌++◌, ◌<◌, ◌≤◌, length, slice_get, slice_set, ◌↔◌, IsTrue};
+ghost use Rattle.dl_ir.specs.Cells.{IsSplit};
 ghost use Rattle.dl_ir.specs.Heap.{blank, blank_fields, blank_object};
 
-use crate::cells::{Cell, cell_of, value_of};
 use crate::iterators::FieldsIter;
 use crate::modules::{FieldDecl, KindDecl, Ty};
 use crate::names::Value;
-use crate::views::{FieldsRef, ObjRef};
+use crate::parts::{Far, Near};
+use crate::views::FieldsRef;
 use std::marker::Model;
 
 /// The values of an object's fields, at most 16, in the order of declaration. They take no memory of their own.
 #[derive(Debug, Drop)]
 pub struct Fields {
-    // Before the values, so that it lies beside the first of them in memory.
-    len: usize,
-    cells: [Cell; 16],
+    near: Near,
+    far: Far,
 }
 
 impl Model for Fields {
-    ghost use Rattle.std.specs.Prelude.{List, map, take, ◌≤◌};
+    ghost use Rattle.std.specs.Prelude.{List, ◌++◌};
     ghost use Rattle.std.specs.Coded.{coded_list};
     ghost use Rattle.dl_ir.specs.declared.names.Value.{Value as Held};
-    ghost use Rattle.dl_ir.specs.Cells.{value_in};
+    ghost use Rattle.dl_ir.specs.Cells.{IsSplit};
     ghost use Rattle.dl_ir.specs.Values.{coded_value};
 
     ghost Value = { List Held };
 
     ghost coded = { coded_list coded_value };
 
-    ghost view = { λ a. map value_in (take a.len a.cells) };
+    ghost view = { λ a. a.near ++ a.far };
 
-    ghost invariant = { λ a. a.len ≤ 16 };
+    ghost invariant = { λ a. IsSplit a.near a.far };
 }
 
 impl Fields {
@@ -40,8 +39,8 @@ impl Fields {
         ensures { result ≡ [] }
     {
         Fields {
-            len: 0,
-            cells: [Cell::Int(0); 16],
+            near: Near::new(),
+            far: Far::new(),
         }
     }
 
@@ -57,46 +56,63 @@ impl Fields {
         blanks
     }
 
+    /// The fields whose first values are these, with those behind them.
+    pub(crate) fn of_parts(near: Near, far: Far) -> Fields
+        requires { IsSplit near far }
+        ensures { result ≡ near ++ far }
+    {
+        Fields { near, far }
+    }
+
+    /// The first values, and those behind them.
+    pub(crate) fn into_parts(self) -> (Near, Far)
+        ensures value { result.0 ++ result.1 ≡ self }
+        ensures split { IsSplit result.0 result.1 }
+    {
+        (self.near, self.far)
+    }
+
     /// Adds a field behind the others.
     pub fn push(&mut self, value: Value)
         requires { length self.old < 16 }
         ensures { self.new ≡ self.old ++ value ∷ [] }
     {
-        let at = self.len;
-        self.cells[at] = cell_of(value);
-        self.len = at + 1;
+        if self.near.len() < 4 {
+            self.near.push(value);
+        } else {
+            self.far.push(value);
+        }
     }
 
     /// The value of the field with this number, if there is one.
     pub fn get(&self, at: usize) -> Option<Value>
         ensures { result ≡ slice_get self.now at }
     {
-        if at < self.len {
-            Some(value_of(self.cells[at]))
-        } else {
-            None
-        }
+        self.view().get(at)
     }
 
     /// Writes the field with this number, if there is one.
     pub fn set(&mut self, at: usize, value: Value)
         ensures { self.new ≡ slice_set self.old at value }
     {
-        if at < self.len {
-            self.cells[at] = cell_of(value);
+        let near = self.near.len();
+        if at < near {
+            self.near.replace(at, value);
+        } else {
+            self.far.replace(at - near, value);
         }
     }
 
     pub fn len(&self) -> usize
         ensures { result ≡ length self.now }
     {
-        self.held().len()
+        self.view().len()
     }
 
     pub fn is_empty(&self) -> bool
         ensures { IsTrue result ↔ (self.now ≡ []) }
     {
-        self.held().is_empty()
+        self.view().is_empty()
     }
 
     /// The values, in order.
@@ -104,10 +120,7 @@ impl Fields {
         ensures value { result ≡ self.now }
         ensures few { length result ≤ 16 }
     {
-        FieldsIter {
-            near: self.held(),
-            far: &[],
-        }
+        self.view().iter()
     }
 
     /// The values as a heap shows those of an object.
@@ -115,17 +128,9 @@ impl Fields {
         ensures { result ≡ self.now }
     {
         FieldsRef {
-            near: self.held(),
-            far: &[],
+            near: self.near.held(),
+            far: self.far.held(),
         }
-    }
-
-    // The cells that hold a value.
-    fn held(&self) -> &[Cell]
-        ensures value { map value_in result.now ≡ self.now }
-        ensures few { length result.now ≤ 16 }
-    {
-        &self.cells[..self.len]
     }
 }
 
@@ -159,18 +164,6 @@ impl Obj {
             kind,
             sealed: false,
             fields: Fields::blank(declared.fields.as_slice()),
-        }
-    }
-
-    /// The object as a heap shows it.
-    pub(crate) fn view(&self) -> ObjRef<'_>
-        ensures { result ≡ self.now }
-    {
-        ObjRef {
-            kind: self.kind,
-            sealed: self.sealed,
-            near: self.fields.held(),
-            far: &[],
         }
     }
 }

@@ -1,23 +1,25 @@
 //! Tables of values under names.
 
-ghost use Rattle.std.specs.Prelude.{◌≡◌, ◌↔◌, true, [], ◌+◌, ◌-◌, ◌^◌, ◌<◌, ◌≤◌, ℕ, IsTrue, IfOk, IfErr, None, Some, Option, option_and_then, length, take, slice_get, slice_set, vec_capacity};
+ghost use Rattle.std.specs.Prelude.{◌≡◌, ◌↔◌, true, [], ◌+◌, ◌-◌, ◌^◌, ◌<◌, ◌≤◌, ℕ, IsTrue, IfOk, IfErr, None, Some, Option, List, option_and_then, length, take, slice_get, slice_set, vec_capacity};
 ghost use Rattle.std.specs.Option.{option_copied, option_map, option_map_or};
 ghost use Rattle.std.specs.FinMap as map;
-ghost use Rattle.dl_ir.specs.Counted.{row_with, sealed_row, recounted_row};
 ghost use Rattle.dl_ir.specs.Heap.{name_cmp};
+ghost use Rattle.dl_ir.specs.Joined.{near_with, far_with, sealed_head, recounted_head};
 ghost use Rattle.dl_ir.specs.Places.{IsAt, IsGap, present};
 ghost use Rattle.dl_ir.specs.Rows.{changed};
 ghost use Rattle.dl_ir.specs.declared.names.Name.{Name};
-ghost use Rattle.dl_ir.specs.declared.rows.Row.{Row};
+ghost use Rattle.dl_ir.specs.declared.names.Value.{Value as Held};
+ghost use Rattle.dl_ir.specs.declared.rows.Head.{Head};
 
 use crate::hints::Hints;
 use crate::iterators::TableIter;
 use crate::names::{Name, Value};
-use crate::rows::Row;
+use crate::parts::Far;
+use crate::rows::Head;
 use std::alloc::{AllocError, Global};
 use std::marker::Model;
 
-// How many names without a value may be there beyond as many as have one, in pairs.
+// So many more names than with a value, twice over, may be there without one.
 const SPARE: usize = 64;
 
 /// Values under names, in the order of names, with memory for a number of them that is chosen when it is made. Time grows
@@ -167,13 +169,13 @@ impl<V: Drop> Table<V> {
     }
 }
 
-impl Table<Row> {
-    /// Writes a field of an object, and answers the value that it had. Nothing changes where there is no such object or
-    /// field.
+impl Table<Head> {
+    /// Writes one of the first fields of an object, and answers the value that it had. Nothing changes where there is no
+    /// such object or field.
     #[inline(always)]
-    pub(crate) fn replace_field(&mut self, name: Name, field: usize, value: Value) -> Option<Value>
-        ensures before { result ≡ option_and_then (λ (row : Row). slice_get row.object.fields field) (map.get self.old.rows name) }
-        ensures written { self.new ≡ record self.old { rows = changed self.old.rows name (row_with field value) } }
+    pub(crate) fn replace_near(&mut self, name: Name, field: usize, value: Value) -> Option<Value>
+        ensures before { result ≡ option_and_then (λ (head : Head). slice_get head.near field) (map.get self.old.rows name) }
+        ensures written { self.new ≡ record self.old { rows = changed self.old.rows name (near_with field value) } }
     {
         match place_near(&self.entries, self.hints.guess(name), name) {
             Ok(at) => set_at(&mut self.entries, at, field, value),
@@ -183,7 +185,7 @@ impl Table<Row> {
 
     /// Seals an object. Nothing changes where there is no such object.
     pub(crate) fn seal(&mut self, name: Name)
-        ensures { self.new ≡ record self.old { rows = changed self.old.rows name sealed_row } }
+        ensures { self.new ≡ record self.old { rows = changed self.old.rows name sealed_head } }
     {
         if let Ok(at) = place_near(&self.entries, self.hints.guess(name), name) {
             seal_at(&mut self.entries, at);
@@ -194,12 +196,25 @@ impl Table<Row> {
     /// object is sealed. Nothing changes where there is no such object.
     #[inline(always)]
     pub(crate) fn recount(&mut self, name: Name, more: u64, fewer: u64) -> Option<(u64, bool)>
-        requires { (row : Row) → map.get self.old.rows name ≡ Some row → 0 < more → row.refs + more < 2 ^ 64 }
-        ensures before { result ≡ option_map (λ (row : Row). (row.refs, row.object.sealed)) (map.get self.old.rows name) }
-        ensures recounted { self.new ≡ record self.old { rows = changed self.old.rows name (recounted_row more fewer) } }
+        requires { (head : Head) → map.get self.old.rows name ≡ Some head → 0 < more → head.refs + more < 2 ^ 64 }
+        ensures before { result ≡ option_map (λ (head : Head). (head.refs, head.sealed)) (map.get self.old.rows name) }
+        ensures recounted { self.new ≡ record self.old { rows = changed self.old.rows name (recounted_head more fewer) } }
     {
         match place_near(&self.entries, self.hints.guess(name), name) {
             Ok(at) => recount_at(&mut self.entries, at, more, fewer),
+            Err(_) => None,
+        }
+    }
+}
+
+impl Table<Far> {
+    /// Writes one of the values that stand aside, and answers the value that it was. Nothing changes where there is none.
+    pub(crate) fn replace_far(&mut self, name: Name, at: usize, value: Value) -> Option<Value>
+        ensures before { result ≡ option_and_then (λ (far : List Held). slice_get far at) (map.get self.old.rows name) }
+        ensures written { self.new ≡ record self.old { rows = changed self.old.rows name (far_with at value) } }
+    {
+        match place_near(&self.entries, self.hints.guess(name), name) {
+            Ok(place) => set_far_at(&mut self.entries, place, at, value),
             Err(_) => None,
         }
     }
@@ -254,7 +269,8 @@ fn first_from<V>(entries: &[(Name, Option<V>)], from: usize) -> usize
     at
 }
 
-// Lets go of the names that have no value, where they are more than the others or memory for another name may be wanting.
+// Lets go of the names that have no value, where they are some more than the others or memory for another name may be
+// wanting.
 // Answers a place before which no name has a value.
 fn make_room<V: Drop>(
     entries: &mut Vec<(Name, Option<V>)>,
@@ -344,25 +360,21 @@ fn take_at<V>(entries: &mut Vec<(Name, Option<V>)>, at: usize) -> Option<V>
     entries[at].1.take()
 }
 
-// Writes a field of the object at a place, if there is one, and answers the value that it had.
+// Writes one of the first fields of the object at a place, if there is one, and answers the value that it had.
 #[inline(always)]
 fn set_at(
-    entries: &mut Vec<(Name, Option<Row>)>,
+    entries: &mut Vec<(Name, Option<Head>)>,
     at: usize,
     field: usize,
     value: Value,
 ) -> Option<Value>
     requires { at < length entries.old.items }
-    ensures before { (e : Name × Option Row) → slice_get entries.old.items at ≡ Some e → result ≡ option_and_then (λ (row : Row). slice_get row.object.fields field) e.1 }
-    ensures field { (e : Name × Option Row) → slice_get entries.old.items at ≡ Some e → entries.new.items ≡ slice_set entries.old.items at (e.0, option_map (row_with field value) e.1) }
+    ensures before { (e : Name × Option Head) → slice_get entries.old.items at ≡ Some e → result ≡ option_and_then (λ (head : Head). slice_get head.near field) e.1 }
+    ensures field { (e : Name × Option Head) → slice_get entries.old.items at ≡ Some e → entries.new.items ≡ slice_set entries.old.items at (e.0, option_map (near_with field value) e.1) }
     ensures capacity { vec_capacity entries.new ≡ vec_capacity entries.old }
 {
     match &mut entries[at].1 {
-        Some(row) => {
-            let before = row.object.fields.get(field);
-            row.object.fields.set(field, value);
-            before
-        }
+        Some(head) => head.near.replace(field, value),
         None => None,
     }
 }
@@ -371,34 +383,52 @@ fn set_at(
 // there is one.
 #[inline(always)]
 fn recount_at(
-    entries: &mut Vec<(Name, Option<Row>)>,
+    entries: &mut Vec<(Name, Option<Head>)>,
     at: usize,
     more: u64,
     fewer: u64,
 ) -> Option<(u64, bool)>
     requires within { at < length entries.old.items }
-    requires fits { (e : Name × Option Row) (row : Row) → slice_get entries.old.items at ≡ Some e → e.1 ≡ Some row → 0 < more → row.refs + more < 2 ^ 64 }
-    ensures before { (e : Name × Option Row) → slice_get entries.old.items at ≡ Some e → result ≡ option_map (λ (row : Row). (row.refs, row.object.sealed)) e.1 }
-    ensures recounted { (e : Name × Option Row) → slice_get entries.old.items at ≡ Some e → entries.new.items ≡ slice_set entries.old.items at (e.0, option_map (recounted_row more fewer) e.1) }
+    requires fits { (e : Name × Option Head) (head : Head) → slice_get entries.old.items at ≡ Some e → e.1 ≡ Some head → 0 < more → head.refs + more < 2 ^ 64 }
+    ensures before { (e : Name × Option Head) → slice_get entries.old.items at ≡ Some e → result ≡ option_map (λ (head : Head). (head.refs, head.sealed)) e.1 }
+    ensures recounted { (e : Name × Option Head) → slice_get entries.old.items at ≡ Some e → entries.new.items ≡ slice_set entries.old.items at (e.0, option_map (recounted_head more fewer) e.1) }
     ensures capacity { vec_capacity entries.new ≡ vec_capacity entries.old }
 {
     match &mut entries[at].1 {
-        Some(row) => {
-            let before = row.refs;
-            row.refs = (before + more).saturating_sub(fewer);
-            Some((before, row.object.sealed))
+        Some(head) => {
+            let before = head.refs;
+            head.refs = (before + more).saturating_sub(fewer);
+            Some((before, head.sealed))
         }
         None => None,
     }
 }
 
 // Seals the object at a place, if there is one.
-fn seal_at(entries: &mut Vec<(Name, Option<Row>)>, at: usize)
+fn seal_at(entries: &mut Vec<(Name, Option<Head>)>, at: usize)
     requires { at < length entries.old.items }
-    ensures sealed { (e : Name × Option Row) → slice_get entries.old.items at ≡ Some e → entries.new.items ≡ slice_set entries.old.items at (e.0, option_map sealed_row e.1) }
+    ensures sealed { (e : Name × Option Head) → slice_get entries.old.items at ≡ Some e → entries.new.items ≡ slice_set entries.old.items at (e.0, option_map sealed_head e.1) }
     ensures capacity { vec_capacity entries.new ≡ vec_capacity entries.old }
 {
-    if let Some(row) = &mut entries[at].1 {
-        row.object.sealed = true;
+    if let Some(head) = &mut entries[at].1 {
+        head.sealed = true;
+    }
+}
+
+// Writes one of the values that stand aside at a place, if any do, and answers the value that it was.
+fn set_far_at(
+    entries: &mut Vec<(Name, Option<Far>)>,
+    place: usize,
+    at: usize,
+    value: Value,
+) -> Option<Value>
+    requires { place < length entries.old.items }
+    ensures before { (e : Name × Option (List Held)) → slice_get entries.old.items place ≡ Some e → result ≡ option_and_then (λ (far : List Held). slice_get far at) e.1 }
+    ensures value { (e : Name × Option (List Held)) → slice_get entries.old.items place ≡ Some e → entries.new.items ≡ slice_set entries.old.items place (e.0, option_map (far_with at value) e.1) }
+    ensures capacity { vec_capacity entries.new ≡ vec_capacity entries.old }
+{
+    match &mut entries[place].1 {
+        Some(far) => far.replace(at, value),
+        None => None,
     }
 }

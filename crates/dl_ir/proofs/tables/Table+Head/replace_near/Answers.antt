@@ -2,15 +2,15 @@ use Rattle.std.proofs.Common.{set, ap, sym, ◌∙◌}
 use Rattle.std.specs.Prelude.{option_and_then, slice_get}
 use Rattle.std.specs.Option.{option_map}
 use Rattle.dl_ir.specs.declared.names.Name.{Name}
-use Rattle.dl_ir.specs.declared.rows.Row.{Row}
-use Rattle.dl_ir.specs.Counted.{row_with}
+use Rattle.dl_ir.specs.declared.rows.Head.{Head}
+use Rattle.dl_ir.specs.Joined.{near_with}
 use Rattle.dl_ir.specs.Places.{IsAt}
 use Rattle.dl_ir.specs.Rows.{changed_of}
 use Rattle.dl_ir.proofs.Edits.{at_within}
 use Rattle.dl_ir.proofs.SortedEntries.{holds}
 use Rattle.dl_ir.proofs.Present.{rows}
 use Rattle.dl_ir.proofs.TableEdits.{entry, absent, after, table-after}
-use Rattle.dl_ir.proofs.tables.Table+Row.replace_field.Goals as goal
+use Rattle.dl_ir.proofs.tables.Table+Head.replace_near.Goals as goal
 
 pub set_at-requires : goal.set_at-requires
 set_at-requires c =
@@ -21,7 +21,7 @@ set_at-requires c =
 pub invariant_of-self : goal.invariant_of-self
 invariant_of-self c =
     let items = c.self.inside.entries.items in
-    let change = row_with c.args.field c.args.value in
+    let change = near_with c.args.field c.args.value in
     let found : IsAt c.args.name items c.in-Ok.at = rw c.deref.ensures.value at c.in-Ok.ensures.found in
     let e = entry c.self.invariant c.args.name c.in-Ok.at found in
     let after-it = c.set_at.ensures.field e.0 e.1 ∙ ap (λ (n : Name). set items c.in-Ok.at (n, option_map change e.0.1)) e.2 in
@@ -32,12 +32,12 @@ returns-in-Ok-clause-before c =
     let items = c.self.inside.entries.items in
     let found : IsAt c.args.name items c.in-Ok.at = rw c.deref.ensures.value at c.in-Ok.ensures.found in
     let e = entry c.self.invariant c.args.name c.in-Ok.at found in
-    rw (← c.self.view_is) (c.set_at.ensures.before e.0 e.1 ∙ ap (option_and_then (λ (row : Row). slice_get row.object.fields c.args.field)) (sym e.3))
+    rw (← c.self.view_is) (c.set_at.ensures.before e.0 e.1 ∙ ap (option_and_then (λ (head : Head). slice_get head.near c.args.field)) (sym e.3))
 
 pub returns-in-Ok-clause-written : goal.returns-in-Ok-clause-written
 returns-in-Ok-clause-written c =
     let items = c.self.inside.entries.items in
-    let change = row_with c.args.field c.args.value in
+    let change = near_with c.args.field c.args.value in
     let found : IsAt c.args.name items c.in-Ok.at = rw c.deref.ensures.value at c.in-Ok.ensures.found in
     let e = entry c.self.invariant c.args.name c.in-Ok.at found in
     let after-it = c.set_at.ensures.field e.0 e.1 ∙ ap (λ (n : Name). set items c.in-Ok.at (n, option_map change e.0.1)) e.2 in
@@ -47,10 +47,10 @@ returns-in-Ok-clause-written c =
 pub returns-in-Err-clause-before : goal.returns-in-Err-clause-before
 returns-in-Err-clause-before c =
     let gap = rw c.deref.ensures.value at c.in-Err.ensures.absent in
-    rw (← c.self.view_is) (ap (option_and_then (λ (row : Row). slice_get row.object.fields c.args.field)) (sym (absent c.self.invariant _ _ gap)))
+    rw (← c.self.view_is) (ap (option_and_then (λ (head : Head). slice_get head.near c.args.field)) (sym (absent c.self.invariant _ _ gap)))
 
 pub returns-in-Err-clause-written : goal.returns-in-Err-clause-written
 returns-in-Err-clause-written c =
     let gap = rw c.deref.ensures.value at c.in-Err.ensures.absent in
     rw (← c.self.view_is) (ap (λ rows. record { rows = rows; room = c.self.inside.room }) (
-    ap (changed_of (rows c.self.inside.entries.items) c.args.name (row_with c.args.field c.args.value)) (sym (absent c.self.invariant _ _ gap))))
+    ap (changed_of (rows c.self.inside.entries.items) c.args.name (near_with c.args.field c.args.value)) (sym (absent c.self.invariant _ _ gap))))
