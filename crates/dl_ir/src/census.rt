@@ -62,6 +62,14 @@ impl Census {
         self.rows.get(name)
     }
 
+    /// The value of a field of an object, if the object is there and has the field.
+    #[inline(always)]
+    pub fn field(&self, name: Name, at: usize) -> Option<Value>
+        ensures { result ≡ option_and_then (λ (object : Obj). slice_get object.fields at) (map.get self.now.objects.rows name) }
+    {
+        self.rows.field(name, at)
+    }
+
     /// The number of fields that refer to the object with this name, if there is one.
     #[inline(always)]
     pub fn count(&self, name: Name) -> Option<u64>

@@ -1,6 +1,6 @@
 //! The heap: objects under their names, with what settling has to know of them at hand.
 
-ghost use Rattle.std.specs.Prelude.{◌≡◌, ℕ, false, [], ◌∷◌, ◌+◌, ◌^◌, ◌<◌, ◌≤◌, ◌↔◌, IsTrue, IfOk, OnOk, Some, length, slice_get, count_by, None, if◌then◌else◌};
+ghost use Rattle.std.specs.Prelude.{◌≡◌, ℕ, false, [], ◌∷◌, ◌+◌, ◌^◌, ◌<◌, ◌≤◌, ◌↔◌, IsTrue, IfOk, OnOk, Some, length, option_and_then, slice_get, count_by, None, if◌then◌else◌};
 ghost use Rattle.std.specs.List.{AllByRecursion};
 ghost use Rattle.std.specs.FinMap as map;
 ghost use Rattle.dl_ir.specs.Heap.{Objects, hidden_count, with_field, blank_object, roots_from, roots_of, start_objects, StandInRow, HasStart, IsHeapOf};
@@ -83,6 +83,14 @@ impl Heap {
         ensures { result ≡ map.get self.now.objects name }
     {
         self.census.get(name)
+    }
+
+    /// The value of a field of an object, if the object is there and has the field.
+    #[inline(always)]
+    pub fn field(&self, name: Name, at: usize) -> Option<Value>
+        ensures { result ≡ option_and_then (λ (object : Obj). slice_get object.fields at) (map.get self.now.objects name) }
+    {
+        self.census.field(name, at)
     }
 
     /// Whether the object with this name is sealed. It is not looked up where no object may be.

@@ -52,6 +52,18 @@ impl Near {
         self.len = at + 1;
     }
 
+    /// The value with this number, if there is one.
+    #[inline(always)]
+    pub fn get(&self, at: usize) -> Option<Value>
+        ensures { result ≡ slice_get self.now at }
+    {
+        if at < self.len {
+            Some(value_of(self.cells[at]))
+        } else {
+            None
+        }
+    }
+
     /// Writes the value with this number, if there is one, and answers the value that was there.
     #[inline(always)]
     pub fn replace(&mut self, at: usize, value: Value) -> Option<Value>
@@ -127,6 +139,17 @@ impl Far {
         let at = self.len;
         self.cells[at] = cell_of(value);
         self.len = at + 1;
+    }
+
+    /// The value with this number, if there is one.
+    pub fn get(&self, at: usize) -> Option<Value>
+        ensures { result ≡ slice_get self.now at }
+    {
+        if at < self.len {
+            Some(value_of(self.cells[at]))
+        } else {
+            None
+        }
     }
 
     /// Writes the value with this number, if there is one, and answers the value that was there.

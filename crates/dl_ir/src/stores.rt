@@ -70,6 +70,24 @@ impl Store {
         }
     }
 
+    /// The value of a field of an object, if the object is there and has the field.
+    #[inline(always)]
+    pub fn field(&self, name: Name, at: usize) -> Option<Value>
+        ensures { result ≡ option_and_then (λ (row : Row). slice_get row.object.fields at) (map.get self.now.rows name) }
+    {
+        if at < 4 {
+            match self.heads.get(name) {
+                Some(head) => head.near.get(at),
+                None => None,
+            }
+        } else {
+            match self.tails.get(name) {
+                Some(far) => far.get(at - 4),
+                None => None,
+            }
+        }
+    }
+
     /// The number of fields that refer to the object with this name, if there is one.
     #[inline(always)]
     pub fn count(&self, name: Name) -> Option<u64>
