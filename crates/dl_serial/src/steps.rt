@@ -30,7 +30,7 @@ pub fn field_of(heap: &Heap, name: Name, field: u32) -> Option<Value>
     ensures { result ≡ option_and_then (λ (object : Obj). slice_get object.fields field) (finite.get heap.now.objects name) }
 {
     match heap.get(name) {
-        Some(object) => object.fields.get(field as usize),
+        Some(object) => object.fields().get(field as usize),
         None => None,
     }
 }
