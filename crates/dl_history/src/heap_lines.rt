@@ -8,7 +8,7 @@ ghost use Rattle.dl_text.specs.Writing.{Puts};
 ghost use Rattle.dl_history.specs.Report.{field_text, seal_text, object_text, object_line, heap_head, heap_part};
 
 use crate::pieces::{put_name, put_text, put_value};
-use dl_ir::{FieldDecl, Fields, Heap, KindDecl, Module, Name, Obj, Value};
+use dl_ir::{FieldDecl, FieldsRef, Heap, KindDecl, Module, Name, ObjRef, Value};
 use dl_text::{Failed, Out, Sink};
 
 fn put_field<K: Sink>(
@@ -31,7 +31,7 @@ fn put_fields<K: Sink>(
     out: &mut Out,
     sink: &mut K,
     decls: &[FieldDecl],
-    values: &Fields,
+    values: &FieldsRef<'_>,
 ) -> Result<(), Failed>
     requires { out.old.failed ≡ false }
     ensures { Puts (K.taken sink.old) out.old (flat_map field_text (zip decls.now values.now)) result (K.taken sink.new) out.new }
@@ -59,26 +59,26 @@ fn put_seal<K: Sink>(out: &mut Out, sink: &mut K, sealed: bool) -> Result<(), Fa
 fn put_object_fields<K: Sink>(
     out: &mut Out,
     sink: &mut K,
-    object: &Obj,
+    object: &ObjRef<'_>,
     kind: &KindDecl,
 ) -> Result<(), Failed>
     requires { out.old.failed ≡ false }
     ensures { Puts (K.taken sink.old) out.old (flat_map field_text (zip kind.now.fields object.now.fields)) result (K.taken sink.new) out.new }
 {
-    put_fields(out, sink, kind.fields.as_slice(), &object.fields)
+    put_fields(out, sink, kind.fields.as_slice(), &object.fields())
 }
 
 fn put_object_of<K: Sink>(
     out: &mut Out,
     sink: &mut K,
-    object: &Obj,
+    object: &ObjRef<'_>,
     kind: &KindDecl,
 ) -> Result<(), Failed>
     requires { out.old.failed ≡ false }
     ensures { Puts (K.taken sink.old) out.old (object_text object.now (Some kind.now)) result (K.taken sink.new) out.new }
 {
     put_text(out, sink, &kind.name)?;
-    put_seal(out, sink, object.sealed)?;
+    put_seal(out, sink, object.is_sealed())?;
     put_object_fields(out, sink, object, kind)
 }
 
@@ -86,12 +86,12 @@ fn put_object<K: Sink>(
     out: &mut Out,
     sink: &mut K,
     source: &Module,
-    object: &Obj,
+    object: &ObjRef<'_>,
 ) -> Result<(), Failed>
     requires { out.old.failed ≡ false }
     ensures { Puts (K.taken sink.old) out.old (object_text object.now (slice_get source.now.kinds object.now.kind)) result (K.taken sink.new) out.new }
 {
-    match source.kinds.get(object.kind as usize) {
+    match source.kinds.get(object.kind() as usize) {
         Some(kind) => put_object_of(out, sink, object, kind),
         None => out.put(sink, b""),
     }
@@ -102,7 +102,7 @@ fn put_object_line<K: Sink>(
     sink: &mut K,
     source: &Module,
     name: Name,
-    object: &Obj,
+    object: &ObjRef<'_>,
 ) -> Result<(), Failed>
     requires { out.old.failed ≡ false }
     ensures { Puts (K.taken sink.old) out.old (object_line source.now (name, object.now)) result (K.taken sink.new) out.new }
@@ -123,7 +123,7 @@ fn put_object_lines<K: Sink>(
     ensures { Puts (K.taken sink.old) out.old (flat_map (object_line source.now) (finite.entries heap.now.objects)) result (K.taken sink.new) out.new }
 {
     'objects: for (name, object) in heap.iter() {
-        put_object_line(out, sink, source, name, object)?;
+        put_object_line(out, sink, source, name, &object)?;
     }
     Ok(())
 }
