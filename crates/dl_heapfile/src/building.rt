@@ -103,7 +103,7 @@ fn is_of_kind(heap: &Heap, name: Name, kind: u32) -> bool
     ensures no { result ≡ false → IsHidden name × HasObject heap.now.objects name kind → ⊥ }
 {
     match heap.get(name) {
-        Some(object) => name.ticket > 0 && object.kind == kind,
+        Some(object) => name.ticket > 0 && object.kind() == kind,
         None => false,
     }
 }

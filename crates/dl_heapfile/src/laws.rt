@@ -5,7 +5,7 @@ ghost use Rattle.dl_ir.specs.declared.names.Value.TheVariants.{Int};
 ghost use Rattle.dl_heapfile.specs.Lines.{IsSmall};
 ghost use Rattle.dl_heapfile.specs.Laws.{HoldsSmall, IsReadOnce, IsSpeltOnce, WhatIsReadIsSpelt, WhatIsSpeltIsRead};
 
-use dl_ir::{Fields, Heap, Value};
+use dl_ir::{FieldsRef, Heap, Value};
 
 /// That a heap which is read is one from which a run may start, and that the text has its printed part.
 pub fn what_is_read_is_spelt()
@@ -39,7 +39,7 @@ fn value_is_small(value: Value)
     }
 }
 
-fn fields_are_small(fields: &Fields)
+fn fields_are_small(fields: &FieldsRef<'_>)
     ensures { (at : ℕ) (number : ℤ) → slice_get fields.now at ≡ Some (Int number) → IsSmall number }
 {
     for value in fields.iter() {
@@ -52,6 +52,6 @@ pub fn heaps_hold_small(heap: &Heap)
     ensures { HoldsSmall heap.now.objects }
 {
     for (_, object) in heap.iter() {
-        fields_are_small(&object.fields);
+        fields_are_small(&object.fields());
     }
 }
