@@ -3,7 +3,7 @@
 ghost use Rattle.std.specs.Prelude.{◌≡◌, ◌+◌, ◌≤◌, IfOk, OnOk};
 ghost use Rattle.std.specs.FinMap as map;
 
-use dl_ir::{Fields, Heap, Obj};
+use dl_ir::{Fields, Heap, Obj, ObjRef};
 use std::alloc::{AllocError, Global};
 
 /// A copy of a heap, with memory for so many objects.
@@ -13,22 +13,22 @@ pub fn copied(alloc: Global, heap: &Heap, room: usize) -> Result<Heap, AllocErro
 {
     let mut copy = Heap::new(alloc, room)?;
     for (name, object) in heap.iter() {
-        copy.put(name, copy_of(object));
+        copy.put(name, copy_of(&object));
     }
     Ok(copy)
 }
 
 // A copy of an object.
-fn copy_of(object: &Obj) -> Obj
+fn copy_of(object: &ObjRef<'_>) -> Obj
     ensures { result ≡ object.now }
 {
     let mut fields = Fields::new();
-    for value in object.fields.iter() {
+    for value in object.fields().iter() {
         fields.push(value);
     }
     Obj {
-        kind: object.kind,
-        sealed: object.sealed,
+        kind: object.kind(),
+        sealed: object.is_sealed(),
         fields,
     }
 }

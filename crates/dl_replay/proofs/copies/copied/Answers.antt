@@ -21,12 +21,12 @@ loop-name-init c =
 pub loop-name-preserved : goal.loop-name-preserved
 loop-name-preserved c =
     let copy = c.loop-name.copy.objects in
-    let put : c.put.new.self.objects ≡ map.insert copy c.in-Some.name c.in-Some.object.now
+    let put : c.put.new.self.objects ≡ map.insert copy c.in-Some.name c.in-Some.object
     = ap (λ (v : View). v.objects) c.put.ensures ∙ ap (map.insert copy c.in-Some.name) c.copy_of.ensures in
     let room = ap (λ (v : View). v.room) c.put.ensures in
     record {
       objects = ap (λ h. added h c.next.new.self) put ∙ ap (added copy) (sym c.in-Some.ensures.steps) ∙ c.loop-name.invariant.objects;
-      few = omega (arith, ap map.len put, len-put names copy c.in-Some.name c.in-Some.object.now, ap length c.in-Some.ensures.steps, c.loop-name.invariant.few, room);
+      few = omega (arith, ap map.len put, len-put names copy c.in-Some.name c.in-Some.object, ap length c.in-Some.ensures.steps, c.loop-name.invariant.few, room);
       room = room ∙ c.loop-name.invariant.room;
     }
 
