@@ -127,7 +127,7 @@ struct Left {
 fn cell(heap: &Heap, index: u32) -> Option<Value> {
     let name = Name { ticket: 0, index };
     match heap.get(name) {
-        Some(object) => object.fields.get(0),
+        Some(object) => object.fields().get(0),
         None => None,
     }
 }

@@ -40,13 +40,16 @@ fn keeps_objects_in_the_order_of_names(rt: HostRuntime) -> Result<(), Fail> {
     );
     assert_eq!(rt; heap.refs(first), 1);
     assert_eq!(rt; heap.first_loose(), Some(second));
-    let held = heap.get(second).and_then(|object| object.fields.get(0));
+    let held = heap.get(second).and_then(|object| object.fields().get(0));
     assert_eq!(rt; held, Some(Value::Ref(Some(first))));
     heap.seal(second);
     assert_eq!(rt; heap.first_loose(), None);
     heap.remove(first);
     assert_eq!(rt; heap.len(), 1);
-    assert_eq!(rt; heap.get(second).map(|object| object.sealed), Some(true));
+    assert_eq!(rt;
+        heap.get(second).map(|object| object.is_sealed()),
+        Some(true)
+    );
     assert!(rt; heap.get(first).is_none());
     Ok(())
 }
@@ -113,7 +116,7 @@ fn starts_with_the_roots_in_a_row(rt: HostRuntime) -> Result<(), Fail> {
     assert!(rt; !heap.is_full());
     let values = heap
         .get(last)
-        .map(|object| (object.fields.get(0), object.fields.get(1)));
+        .map(|object| (object.fields().get(0), object.fields().get(1)));
     assert_eq!(rt; values, Some((Some(Value::Int(0)), Some(Value::Ref(None)))));
     Ok(())
 }
