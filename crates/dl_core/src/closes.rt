@@ -40,7 +40,7 @@ fn plain_object(object: &Object) -> Obj
     Obj {
         kind: object.kind,
         sealed: matches!(object.mark, Mark::Sealed(_)),
-        fields: copied(&object.fields),
+        fields: copied(&object.fields.view()),
     }
 }
 

@@ -12,7 +12,7 @@ use crate::lists::Row;
 use crate::objects::{Mark, Object};
 use crate::queues::Queue;
 use crate::stages::Stage;
-use dl_ir::{Emits, Fields, Heap, Obj, Table};
+use dl_ir::{Emits, Fields, FieldsRef, Heap, ObjRef, Table};
 use std::alloc::{AllocError, Global};
 
 // The greatest ticket of a heap's names.
@@ -39,7 +39,7 @@ pub fn first_counters(heap: &Heap, places: u32) -> Counters
 }
 
 /// The same fields.
-pub fn copied(fields: &Fields) -> Fields
+pub fn copied(fields: &FieldsRef<'_>) -> Fields
     ensures { result ≡ fields.now }
 {
     let mut copy = Fields::new();
@@ -50,17 +50,17 @@ pub fn copied(fields: &Fields) -> Fields
 }
 
 // An object as a run finds it.
-fn found_object(object: &Obj) -> Object
+fn found_object(object: &ObjRef<'_>) -> Object
     ensures { result ≡ marked_object object.now }
 {
     Object {
-        kind: object.kind,
-        mark: if object.sealed {
+        kind: object.kind(),
+        mark: if object.is_sealed() {
             Mark::Sealed(0)
         } else {
             Mark::Free
         },
-        fields: copied(&object.fields),
+        fields: copied(&object.fields()),
     }
 }
 
@@ -71,7 +71,7 @@ pub fn shared_heap(alloc: Global, heap: &Heap, room: usize) -> Result<Table<Obje
 {
     let mut shared = Table::new(alloc, room)?;
     for (name, object) in heap.iter() {
-        shared.put(name, found_object(object));
+        shared.put(name, found_object(&object));
     }
     Ok(shared)
 }
