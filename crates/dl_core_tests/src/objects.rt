@@ -1,7 +1,7 @@
 //! What heaps have, as tables write it.
 
 use crate::told::{Named, name};
-use dl_ir::{Fields, Heap, Value};
+use dl_ir::{FieldsRef, Heap, ObjRef, Value};
 
 /// What a field holds.
 #[derive(Clone, Copy)]
@@ -23,7 +23,7 @@ fn value(held: Held) -> Value {
     }
 }
 
-fn has_fields(fields: &Fields, helds: &[Held]) -> bool {
+fn has_fields(fields: &FieldsRef<'_>, helds: &[Held]) -> bool {
     if fields.len() != helds.len() {
         return false;
     }
@@ -35,6 +35,10 @@ fn has_fields(fields: &Fields, helds: &[Held]) -> bool {
     true
 }
 
+fn is_so(object: &ObjRef<'_>, sealed: bool, helds: &[Held]) -> bool {
+    object.is_sealed() == sealed && has_fields(&object.fields(), helds)
+}
+
 /// Whether the heap has these objects and no others.
 pub fn has_things(heap: &Heap, things: &[Thing]) -> bool {
     if heap.len() != things.len() {
@@ -42,7 +46,7 @@ pub fn has_things(heap: &Heap, things: &[Thing]) -> bool {
     }
     for (named, sealed, helds) in things {
         match heap.get(name(*named)) {
-            Some(object) if object.sealed == *sealed && has_fields(&object.fields, helds) => {}
+            Some(object) if is_so(&object, *sealed, helds) => {}
             _ => return false,
         }
     }
