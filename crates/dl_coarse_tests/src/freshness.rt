@@ -62,7 +62,7 @@ fn first_cell(closed: &Closed) -> Option<Value> {
         index: 0,
     };
     let cell = closed.heap.get(name)?;
-    cell.fields.get(0)
+    cell.fields().get(0)
 }
 
 const SEVEN: &[u8] = b"add 0 1\nadd 0 1\nadd 0 1\nadd 0 1\nadd 0 1\nadd 0 1\nadd 0 1\n";
