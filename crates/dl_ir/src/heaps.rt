@@ -94,6 +94,7 @@ impl Heap {
     }
 
     /// Whether the object with this name is sealed. It is not looked up where no object may be.
+    #[inline(always)]
     pub fn is_sealed(&self, name: Name) -> bool
         ensures { result ≡ is_sealed (map.get self.now.objects name) }
     {
@@ -107,6 +108,7 @@ impl Heap {
     }
 
     /// Whether an object may be sealed. Where it answers no, none is.
+    #[inline(always)]
     pub fn may_have_sealed(&self) -> bool
         ensures { result ≡ false → (name : Name) → is_sealed (map.get self.now.objects name) ≡ false }
     {

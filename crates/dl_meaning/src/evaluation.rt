@@ -37,6 +37,7 @@ fn evaluate_deep(e: &Expr, locals: &[Value]) -> Result<i64, Fault>
 }
 
 /// The value of a condition at these locals, or its first fault.
+#[inline(always)]
 pub fn test(c: &Cond, locals: &[Value]) -> Result<bool, Fault>
     ensures { result ≡ holds_of c.now locals.now }
 {
@@ -54,6 +55,7 @@ pub fn test(c: &Cond, locals: &[Value]) -> Result<bool, Fault>
 }
 
 /// The number that a local holds; 0 where it holds none.
+#[inline(always)]
 pub fn number_at(locals: &[Value], x: u32) -> i64
     ensures { result ≡ number_of (slice_get locals.now x) }
 {
@@ -64,6 +66,7 @@ pub fn number_at(locals: &[Value], x: u32) -> i64
 }
 
 /// What a local refers to; null where it holds no reference.
+#[inline(always)]
 pub fn target_at(locals: &[Value], p: u32) -> Option<Name>
     ensures { result ≡ target_of (slice_get locals.now p) }
 {
@@ -114,6 +117,7 @@ fn remainder(x: i64, y: i64) -> Result<i64, Fault>
     }
 }
 
+#[inline(always)]
 fn relate(rel: Rel, x: i64, y: i64) -> bool
     ensures { result ≡ relates rel x y }
 {
@@ -125,6 +129,7 @@ fn relate(rel: Rel, x: i64, y: i64) -> bool
     }
 }
 
+#[inline(always)]
 fn side(side: RefSide, locals: &[Value]) -> Option<Name>
     ensures { result ≡ side_of side locals.now }
 {
@@ -134,6 +139,7 @@ fn side(side: RefSide, locals: &[Value]) -> Option<Name>
     }
 }
 
+#[inline(always)]
 fn same_target(a: Option<Name>, b: Option<Name>) -> bool
     ensures { result ≡ is_same a b }
 {

@@ -29,10 +29,7 @@ pub fn end_of_fault(fault: Fault) -> End
 pub fn field_of(heap: &Heap, name: Name, field: u32) -> Option<Value>
     ensures { result ≡ option_and_then (λ (object : Obj). slice_get object.fields field) (finite.get heap.now.objects name) }
 {
-    match heap.get(name) {
-        Some(object) => object.fields().get(field as usize),
-        None => None,
-    }
+    heap.field(name, field as usize)
 }
 
 /// Ends the operation, so that it does not go on.
@@ -44,6 +41,7 @@ pub fn end_with(frame: &mut Frame, end: End) -> bool
     false
 }
 
+#[inline(always)]
 fn set_local(frame: &mut Frame, x: u32, value: Value)
     ensures locals { frame.new.locals.items ≡ slice_set frame.old.locals.items x value }
     ensures turns { frame.new.turns ≡ frame.old.turns }
@@ -91,6 +89,7 @@ pub fn run_load(x: u32, p: u32, f: u32, frame: &mut Frame, heap: &Heap) -> bool
     }
 }
 
+#[inline(always)]
 fn number_held(held: Option<Value>) -> i64
     ensures { result ≡ number_of held }
 {
@@ -288,6 +287,7 @@ pub fn run_return(e: &Expr, frame: &mut Frame, heap: &Heap) -> bool
 }
 
 // The end of following or overwriting a reference to a sealed object, if it refers to one.
+#[inline(always)]
 fn sealed_end(heap: &Heap, target: Option<Name>) -> Option<End>
     ensures { (s : State) (next : Outcome) → s.objects ≡ heap.now.objects → unless_sealed target s next ≡ (if is_none result then next else record { state = s; end = result }) }
 {
@@ -299,6 +299,7 @@ fn sealed_end(heap: &Heap, target: Option<Name>) -> Option<End>
 
 // The end of overwriting the reference in a field, if it refers to a sealed object. The field is not looked up where no
 // object may be sealed.
+#[inline(always)]
 fn sealed_end_at(heap: &Heap, name: Name, field: u32) -> Option<End>
     ensures { (s : State) (next : Outcome) → s.objects ≡ heap.now.objects → unless_sealed (target_of (field_in s name field)) s next ≡ (if is_none result then next else record { state = s; end = result }) }
 {
@@ -308,6 +309,7 @@ fn sealed_end_at(heap: &Heap, name: Name, field: u32) -> Option<End>
     sealed_end(heap, target_held(field_of(heap, name, field)))
 }
 
+#[inline(always)]
 fn target_held(held: Option<Value>) -> Option<Name>
     ensures { result ≡ target_of held }
 {
