@@ -19,14 +19,14 @@ use crate::rows::Head;
 use std::alloc::{AllocError, Global};
 use std::marker::Model;
 
-// So many more names than with a value, twice over, may be there without one.
+// Half of how many names without a value there may be beyond as many as have one.
 const SPARE: usize = 64;
 
 /// Values under names, in the order of names, with memory for a number of them that is chosen when it is made. Time grows
 /// with the logarithm of that number, over many calls together, as long as names are put in rising order.
 #[derive(Drop)]
 pub struct Table<V> {
-    // In the order of names. A name stays when its value is removed, until more such names are there than others.
+    // In the order of names. A name stays when its value is removed, until there are too many of them.
     entries: Vec<(Name, Option<V>)>,
     // How many names have a value.
     len: usize,
@@ -269,8 +269,7 @@ fn first_from<V>(entries: &[(Name, Option<V>)], from: usize) -> usize
     at
 }
 
-// Lets go of the names that have no value, where they are some more than the others or memory for another name may be
-// wanting.
+// Lets go of the names that have no value, where there are too many of them or memory for another name may be wanting.
 // Answers a place before which no name has a value.
 fn make_room<V: Drop>(
     entries: &mut Vec<(Name, Option<V>)>,
