@@ -1,5 +1,5 @@
 -- What the rows are of which each is kept in two parts, and what a change of either part makes of them.
-use Rattle.std.proofs.Common.{◌≡◌, ◌++◌, ◌<◌, ◌≤◌, ◌+◌, ◌-◌, ℕ, zero, suc, Bool, true, false, cond, ◌&&◌, List, [], ◌∷◌, length, map, set, refl, sym, ap, subst, ◌∙◌, T, Option, Some, None, arith, inl, inr}
+use Rattle.std.proofs.Common.{◌≡◌, ◌++◌, ◌<◌, ◌≤◌, ◌+◌, ◌-◌, ℕ, zero, suc, Bool, true, false, cond, ◌&&◌, List, [], ◌∷◌, length, set, refl, sym, ap, subst, ◌∙◌, T, Option, Some, None, arith, inl, inr}
 use Rattle.std.specs.Prelude.{is_some, slice_get, option_and_then, if◌then◌else◌}
 use Rattle.std.specs.Option.{option_map}
 use Rattle.std.specs.Cmp.{Equal-is}

@@ -1,9 +1,6 @@
-use Rattle.std.proofs.Common.{List, length, map, take, set, ap, sym, ◌∙◌, arith}
-use Rattle.std.proofs.Math.Nat.{min-le_left}
-use Rattle.std.proofs.lemmas.List.{length-map, length-take}
+use Rattle.std.proofs.Common.{List, set, ap, sym, ◌∙◌, arith}
 use Rattle.std.proofs.lemmas.Option.{slice_get_past}
 use Rattle.dl_ir.specs.declared.names.Value.{Value}
-use Rattle.dl_ir.specs.Cells.{value_in}
 use Rattle.dl_ir.proofs.CellWrites.{take-set-in, take-few}
 use Rattle.dl_ir.proofs.parts.Near.replace.Goals as goal
 

@@ -1,4 +1,4 @@
-use Rattle.std.proofs.Common.{◌++◌, List, None, Some, ap, sym, ◌∙◌}
+use Rattle.std.proofs.Common.{◌++◌, List, Some, ap, sym, ◌∙◌}
 use Rattle.std.specs.Option.{option_map}
 use Rattle.dl_ir.specs.declared.names.Value.{Value}
 use Rattle.dl_ir.proofs.Joining.{get-joined, is_wide, joined-removed, joined-taken, none_without_head, row_at, row_of, same_all, stored-removed, stored-taken}

@@ -1,4 +1,4 @@
-use Rattle.std.proofs.Common.{ap, sym, ◌∙◌, refl}
+use Rattle.std.proofs.Common.{ap, refl}
 use Rattle.dl_ir.specs.Joined.{sealed_head}
 use Rattle.dl_ir.specs.Counted.{sealed_row}
 use Rattle.dl_ir.proofs.Joining.{joined-heads, stored-heads}
