@@ -33,14 +33,14 @@ use Rattle.dl_command.specs.declared.status.ModuleWhy.{ModuleWhy}
 use Rattle.dl_command.specs.declared.status.ModuleWhy.TheVariants as modules
 use Rattle.dl_command.specs.Loading.{syntax_status, type_status}
 use Rattle.dl_command.specs.Texts.{IsModuleText, HasTypeFault, IsModuleFault, IsFaultOf, IsToldBy, Says, calls_status, heap_status, schedule_status}
-use Rattle.dl_command.specs.Words.{Text}
+use Rattle.dl_command.specs.Words.{Bytes}
 
 -- a fault of a module text is one of its tokens or one of its tree
-data Fault (text : Text) (answer : Status) : Type 0 where
+data Fault (text : Bytes) (answer : Status) : Type 0 where
   of_tokens : (fault : SyntaxFault) → IsSyntaxFault text fault → syntax_status fault ≡ answer → Fault text answer
   of_tree : (fault : TypeFault) → HasTypeFault text fault → type_status fault ≡ answer → Fault text answer
 
-view : (text : Text) (line : ℕ) (why : ModuleWhy) → IsModuleFault text line why → Fault text (statuses.ModuleFault line why)
+view : (text : Bytes) (line : ℕ) (why : ModuleWhy) → IsModuleFault text line why → Fault text (statuses.ModuleFault line why)
 view text line modules.NotAscii is = Fault.of_tokens (syntax.NotAscii is.0 line) is.1 refl
 view text line modules.BadByte is = Fault.of_tokens (syntax.BadByte is.0 line) is.1 refl
 view text line modules.BigNumber is = Fault.of_tokens (syntax.BigNumber is.0 line) is.1 refl
@@ -65,23 +65,23 @@ ok_or_err : {P E : Type 0} {T : Type 0} {a : T} {b : E} → ◌≡◌ {A = Resul
 ok_or_err same = absurd (cc)
 
 -- a text is one module
-pub one_source : (text : Text) (a b : Module) → IsModuleText text a → IsModuleText text b → a ≡ b
+pub one_source : (text : Bytes) (a b : Module) → IsModuleText text a → IsModuleText text b → a ≡ b
 one_source text a b is_a is_b =
     let tree = one_tree text is_a.tree is_b.tree is_a.spelled is_b.spelled in
     one_ok (one_outcome is_b.tree (Ok a) (Ok b) (subst (λ t. IsTree t (Ok a)) tree is_a.typed) is_b.typed)
 
 -- a module has no fault
-clash : {P : Type 0} (text : Text) (source : Module) (answer : Status) → IsModuleText text source → Fault text answer → P
+clash : {P : Type 0} (text : Bytes) (source : Module) (answer : Status) → IsModuleText text source → Fault text answer → P
 clash text source answer is (Fault.of_tokens fault at_fault is_answer) = absurd (tree_or_fault text is.tree fault is.spelled at_fault)
 clash text source answer is (Fault.of_tree fault at_fault is_answer) =
     let tree = one_tree text is.tree at_fault.tree is.spelled at_fault.spelled in
     ok_or_err (one_outcome at_fault.tree (Ok source) (Err fault) (subst (λ t. IsTree t (Ok source)) tree is.typed) at_fault.at_fault)
 
-pub module_or_fault : {P : Type 0} (text : Text) (source : Module) (line : ℕ) (why : ModuleWhy) → IsModuleText text source → IsModuleFault text line why → P
+pub module_or_fault : {P : Type 0} (text : Bytes) (source : Module) (line : ℕ) (why : ModuleWhy) → IsModuleText text source → IsModuleFault text line why → P
 module_or_fault text source line why is fault = clash text source _ is (view text line why fault)
 
 -- and else it has one
-same_answer : (text : Text) (a b : Status) → Fault text a → Fault text b → a ≡ b
+same_answer : (text : Bytes) (a b : Status) → Fault text a → Fault text b → a ≡ b
 same_answer text a b (Fault.of_tokens f at_f is_a) (Fault.of_tokens g at_g is_b) =
     sym is_a ∙ ap syntax_status (one_syntax_fault text f g at_f at_g) ∙ is_b
 same_answer text a b (Fault.of_tokens f at_f is_a) (Fault.of_tree g at_g is_b) = absurd (tree_or_fault text at_g.tree f at_g.spelled at_f)
@@ -90,7 +90,7 @@ same_answer text a b (Fault.of_tree f at_f is_a) (Fault.of_tree g at_g is_b) =
     let tree = one_tree text at_f.tree at_g.tree at_f.spelled at_g.spelled in
     sym is_a ∙ ap type_status (one_err (one_outcome at_g.tree (Err f) (Err g) (subst (λ t. IsTree t (Err f)) tree at_f.at_fault) at_g.at_fault)) ∙ is_b
 
-pub one_module_fault : (text : Text) (line other : ℕ) (why otherwise : ModuleWhy) → IsModuleFault text line why → IsModuleFault text other otherwise →
+pub one_module_fault : (text : Bytes) (line other : ℕ) (why otherwise : ModuleWhy) → IsModuleFault text line why → IsModuleFault text other otherwise →
     statuses.ModuleFault line why ≡ statuses.ModuleFault other otherwise
 one_module_fault text line other why otherwise is is_other = same_answer text _ _ (view text line why is) (view text other otherwise is_other)
 
@@ -100,18 +100,18 @@ one_told : {Fault : Type 0} (is_fault : Fault → Type 0) (memory : Fault) (told
 one_told is_fault memory told a b one is_a is_b = is_a.is ∙ ap told (one is_a.fault is_b.fault is_a.at_fault is_b.at_fault) ∙ sym is_b.is
 
 -- a schedule has at most one fault
-schedule_outcome : (callers : ℕ) (text : Text) (a b : Result (List Give) ScheduleFault) → LinesSay callers 1 [] (lines_of text) a → LinesSay callers 1 [] (lines_of text) b → a ≡ b
+schedule_outcome : (callers : ℕ) (text : Bytes) (a b : Result (List Give) ScheduleFault) → LinesSay callers 1 [] (lines_of text) a → LinesSay callers 1 [] (lines_of text) b → a ≡ b
 schedule_outcome callers text a b says_a says_b = sym (say_lines callers a 1 [] (lines_of text) says_a) ∙ say_lines callers b 1 [] (lines_of text) says_b
 
-one_schedule_fault : (callers : ℕ) (text : Text) (a b : ScheduleFault) → IsScheduleFault callers text a → IsScheduleFault callers text b → a ≡ b
+one_schedule_fault : (callers : ℕ) (text : Bytes) (a b : ScheduleFault) → IsScheduleFault callers text a → IsScheduleFault callers text b → a ≡ b
 one_schedule_fault callers text a b is_a is_b = one_err (schedule_outcome callers text (Err a) (Err b) is_a is_b)
 
 -- a module that a text spells has names by which a heap file can tell its objects
-pub text_named : (text : Text) (source : Module) → SpelledHasNames → IsModuleText text source → HasNames source
+pub text_named : (text : Bytes) (source : Module) → SpelledHasNames → IsModuleText text source → HasNames source
 text_named text source named is = named text is.tree source is.spelled is.typed
 
 -- a text has at most one fault of a form
-pub one_fault : (source : Module) (file : ℕ) (form : Form) (text : Text) (a b : Status) → HasNames source → IsFaultOf source file form text a → IsFaultOf source file form text b → a ≡ b
+pub one_fault : (source : Module) (file : ℕ) (form : Form) (text : Bytes) (a b : Status) → HasNames source → IsFaultOf source file form text a → IsFaultOf source file form text b → a ≡ b
 one_fault source file (forms.Heap places) text a b named is_a is_b =
     one_told (λ fault. Reads source places text (Err fault)) heap_faults.Memory heap_status a b
     (λ f g is_f is_g. one_err (is_read_once source places text (Err f) (Err g) named is_f is_g)) is_a is_b
@@ -121,7 +121,7 @@ one_fault source file forms.Operations text a b named is_a is_b =
     one_told (IsCallsFault source text) faults.Memory (calls_status file) a b (one_calls_fault source text) is_a is_b
 
 -- and has none where it says something
-pub says_or_fault : {P : Type 0} (source : Module) (file : ℕ) (form : Form) (text : Text) (content : Content) (status : Status) → HasNames source → Says source form text content →
+pub says_or_fault : {P : Type 0} (source : Module) (file : ℕ) (form : Form) (text : Bytes) (content : Content) (status : Status) → HasNames source → Says source form text content →
     IsFaultOf source file form text status → P
 says_or_fault source file (forms.Heap places) text (contents.Heap heap) status named says fault =
     ok_or_err (is_read_once source places text (Ok heap.objects) (Err fault.fault) named says fault.at_fault)

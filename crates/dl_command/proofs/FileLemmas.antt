@@ -29,7 +29,7 @@ use Rattle.dl_command.specs.Loading.{IsFine, StopsAt}
 use Rattle.dl_command.specs.Reading.{AfterReading, IsWithin, ReadCause, Fails, IsTooLong}
 use Rattle.dl_command.specs.Texts.{CanStart, IsFile, AreFiles, IsModuleFile, Behind, behind_of, first_heap, heap_of, nothing_behind, with_content}
 use Rattle.dl_command.specs.Wanted.{Wanted, heap_file, operations_from, wanted, wanted_by, wanted_held}
-use Rattle.dl_command.specs.Words.{Text, Task}
+use Rattle.dl_command.specs.Words.{Bytes, Request}
 use Rattle.dl_text.proofs.WritingLemmas.{rose_later}
 use Rattle.dl_command.proofs.WantedLemmas.{seen_to}
 
@@ -55,14 +55,14 @@ told_before path text same told = subst (λ (at : List ℕ → Option (List ℕ)
 pub file_before : {source : Module} {start now : Source} {wanted : Wanted} {content : Content} → SameFiles start now → IsFile source now wanted content → IsFile source start wanted content
 file_before {wanted = wanted} same file = record { text = file.text; told = told_before wanted.path file.text same file.told; short = file.short; says = file.says }
 
-fails_before : {start now new : Source} {file : ℕ} {path : Text} → AfterReading start now → Fails file path now new → Fails file path start new
+fails_before : {start now new : Source} {file : ℕ} {path : Bytes} → AfterReading start now → Fails file path now new → Fails file path start new
 fails_before {path = path} after fails = record {
   rose = rose_later after.later fails.rose;
   file_failed = fails.file_failed;
   not_sound = λ h. fails.not_sound (subst (λ paths. Contains paths path) (sym after.same.sound) h);
 }
 
-long_before : {start now new : Source} {file : ℕ} {path : Text} {limit : ℕ} → AfterReading start now → IsTooLong file path limit now new → IsTooLong file path limit start new
+long_before : {start now new : Source} {file : ℕ} {path : Bytes} {limit : ℕ} → AfterReading start now → IsTooLong file path limit now new → IsTooLong file path limit start new
 long_before {path = path} {limit = limit} after long = record {
   attached = long.attached;
   taken = long.taken;
@@ -71,7 +71,7 @@ long_before {path = path} {limit = limit} after long = record {
 }
 
 -- a fault of reading that was seen later is one of the whole call
-pub read_before : (start now new : Source) (file : ℕ) (path : Text) (status : Status) → AfterReading start now → ReadCause status file path now new → ReadCause status file path start new
+pub read_before : (start now new : Source) (file : ℕ) (path : Bytes) (status : Status) → AfterReading start now → ReadCause status file path now new → ReadCause status file path start new
 read_before start now new file path (statuses.ReadFault f) after cause = (cause.0, fails_before after cause.1, cause.2)
 read_before start now new file path (statuses.TooLong f) after cause = (cause.0, long_before after cause.1)
 read_before start now new file path statuses.Memory after cause = cause
@@ -103,10 +103,10 @@ files_before source start now [] before after same are = are
 files_before source start now (file ∷ wanted) before after same are = (are.0, file_before same are.1, files_before source start now wanted (with_content before are.0) after same are.2)
 
 -- why the files behind the module were not taken is why those of the command were not
-pub refuses_behind : {tree : Tree} {source : Module} {start now new : Source} {task : Task} {status : Status} → AfterReading start now → IsModuleFile start task.first tree source →
-    StopsAt source (wanted task) now new status → Refuses task start new status
-refuses_behind {tree = tree} {source = source} {start = start} {now = now} {task = task} after source_file (StopsAt.no_file before at file files is cause) =
-    Refuses.no_file tree source before at file source_file (files_before source start now (take at (wanted task)) nothing_behind before after.same files) is (no_file_before after cause)
+pub refuses_behind : {tree : Tree} {source : Module} {start now new : Source} {request : Request} {status : Status} → AfterReading start now → IsModuleFile start request.first tree source →
+    StopsAt source (wanted request) now new status → Refuses request start new status
+refuses_behind {tree = tree} {source = source} {start = start} {now = now} {request = request} after source_file (StopsAt.no_file before at file files is cause) =
+    Refuses.no_file tree source before at file source_file (files_before source start now (take at (wanted request)) nothing_behind before after.same files) is (no_file_before after cause)
 refuses_behind after source_file (StopsAt.no_memory is within) = Refuses.no_memory is within
 
 -- calls are kept where one more content is fine
@@ -116,12 +116,12 @@ calls_with source behind (contents.Schedule gives) calls fine = calls
 calls_with source behind (contents.Calls more) calls fine = All-push (AreCallsOf source) behind.all more calls fine
 
 -- a list of operation files says the calls of so many files, no schedule, and no heap
-pub record AreOperations (before after : Behind) (paths : List Text) : Type 0 where
+pub record AreOperations (before after : Behind) (paths : List Bytes) : Type 0 where
   pub count : length after.all ≡ length before.all + length paths
   pub gives : after.gives ≡ before.gives
   pub heap : after.heap ≡ before.heap
 
-pub operations_say : (source : Module) (files : Source) (number : ℕ) (paths : List Text) (before after : Behind) → AreFiles source files (operations_from number paths) before after → AreOperations before after paths
+pub operations_say : (source : Module) (files : Source) (number : ℕ) (paths : List Bytes) (before after : Behind) → AreFiles source files (operations_from number paths) before after → AreOperations before after paths
 operations_say source files number [] before after are =
     record { count = (let e = ap (λ (behind : Behind). length behind.all) are in omega (arith, e)); gives = ap (λ (behind : Behind). behind.gives) are; heap = ap (λ (behind : Behind). behind.heap) are }
 operations_say source files number (path ∷ paths) before after (contents.Heap heap, is, are) = absurd is.says
@@ -143,7 +143,7 @@ no_gives count = All-nil (IsGiveOf count)
 -- what a heap file says, where there is one
 abbrev SaysHeap : Module → ℕ → Option Objects → Type 0
 SaysHeap source places None = Unit {0}
-SaysHeap source places (Some heap) = (text : Text) × Reads source places text (Ok heap)
+SaysHeap source places (Some heap) = (text : Bytes) × Reads source places text (Ok heap)
 
 -- the files behind the heap file lead from what that says
 record BehindHeap (source : Module) (files : Source) (places : ℕ) (rest : List Wanted) (after : Behind) : Type 0 where
@@ -153,7 +153,7 @@ record BehindHeap (source : Module) (files : Source) (places : ℕ) (rest : List
   says : SaysHeap source places before.heap
   are : AreFiles source files rest before after
 
-behind_heap : (source : Module) (files : Source) (places : ℕ) (heap : Option Text) (rest : List Wanted) (after : Behind) → AreFiles source files (heap_file places heap ++ rest) nothing_behind after
+behind_heap : (source : Module) (files : Source) (places : ℕ) (heap : Option Bytes) (rest : List Wanted) (after : Behind) → AreFiles source files (heap_file places heap ++ rest) nothing_behind after
     → BehindHeap source files places rest after
 behind_heap source files places None rest after are = record { before = nothing_behind; no_gives = refl; no_calls = refl; says = tt; are = are }
 behind_heap source files places (Some path) rest after (contents.Heap heap, is, are) =
@@ -161,7 +161,7 @@ behind_heap source files places (Some path) rest after (contents.Heap heap, is, 
 behind_heap source files places (Some path) rest after (contents.Schedule gives, is, are) = absurd is.says
 behind_heap source files places (Some path) rest after (contents.Calls calls, is, are) = absurd is.says
 
-pub operations_behind : (source : Module) (files : Source) (places : ℕ) (heap : Option Text) (paths : List Text) (after : Behind)
+pub operations_behind : (source : Module) (files : Source) (places : ℕ) (heap : Option Bytes) (paths : List Bytes) (after : Behind)
     → AreFiles source files (heap_file places heap ++ operations_from 1 paths) nothing_behind after → AreBehind (length paths) after
 operations_behind source files places heap paths after are =
     let first = behind_heap source files places heap (operations_from 1 paths) after are in
@@ -170,7 +170,7 @@ operations_behind source files places heap paths after are =
     let none : length first.before.all ≡ 0 = ap (λ (all : List (List Call)). length all) first.no_calls in
     record { all = omega (arith, count, none); gives = subst (λ (gives : List Give). All (IsGiveOf (length paths)) gives) (sym (is.gives ∙ first.no_gives)) (no_gives (length paths)) }
 
-step_behind : (source : Module) (files : Source) (path : Text) (paths : List Text) (before after : Behind) → before.all ≡ []
+step_behind : (source : Module) (files : Source) (path : Bytes) (paths : List Bytes) (before after : Behind) → before.all ≡ []
     → AreFiles source files (wanted_by verbs.Step (path ∷ paths)) before after → AreBehind (length paths) after
 step_behind source files path paths before after no_calls (contents.Heap heap, is, are) = absurd is.says
 step_behind source files path paths before after no_calls (contents.Calls calls, is, are) = absurd is.says
@@ -181,7 +181,7 @@ step_behind source files path paths before after no_calls (contents.Schedule giv
     let none : length before.all ≡ 0 = ap (λ (all : List (List Call)). length all) no_calls in
     record { all = omega (arith, count, none); gives = subst (λ (gs : List Give). All (IsGiveOf (length paths)) gs) (sym rest.gives) range.each }
 
-pub step_counts : (source : Module) (files : Source) (places : ℕ) (heap : Option Text) (rest : List Text) (behind : Behind) → 2 ≤ length rest
+pub step_counts : (source : Module) (files : Source) (places : ℕ) (heap : Option Bytes) (rest : List Bytes) (behind : Behind) → 2 ≤ length rest
     → AreFiles source files (heap_file places heap ++ wanted_by verbs.Step rest) nothing_behind behind → (count : ℕ) × (count + 1 ≡ length rest) × AreBehind count behind
 step_counts source files places heap [] behind more are = absurd (omega (arith, more))
 step_counts source files places heap (path ∷ paths) behind more are =
@@ -189,7 +189,7 @@ step_counts source files places heap (path ∷ paths) behind more are =
     (length paths, omega arith, step_behind source files path paths first.before behind first.no_calls first.are)
 
 -- no file behind the heap file says a heap
-keeps_heap : (source : Module) (files : Source) (verb : Verb) (rest : List Text) (before after : Behind) → AreFiles source files (wanted_by verb rest) before after → after.heap ≡ before.heap
+keeps_heap : (source : Module) (files : Source) (verb : Verb) (rest : List Bytes) (before after : Behind) → AreFiles source files (wanted_by verb rest) before after → after.heap ≡ before.heap
 keeps_heap source files verbs.Serial rest before after are = (operations_say source files 1 rest before after are).heap
 keeps_heap source files verbs.Run rest before after are = (operations_say source files 1 rest before after are).heap
 keeps_heap source files verbs.Step [] before after are = ap (λ (behind : Behind). behind.heap) are
@@ -209,12 +209,12 @@ may_start source places (Some heap) checked says =
     record { startable = read.startable; fits = read.fits }
 
 -- what the files of a command say is a heap from which a run may start
-pub can_start : (files : Source) (task : Task) (input : Input) → IsChecked input.source → AreFiles input.source files (wanted task) nothing_behind (behind_of input)
-    → CanStart input.source task.places (heap_of input)
-can_start files task input checked are =
-    let first = behind_heap input.source files task.places task.heap (wanted_by task.verb task.rest) (behind_of input) are in
-    let kept = keeps_heap input.source files task.verb task.rest first.before (behind_of input) first.are in
-    may_start input.source task.places input.heap checked (subst (SaysHeap input.source task.places) (sym kept) first.says)
+pub can_start : (files : Source) (request : Request) (input : Input) → IsChecked input.source → AreFiles input.source files (wanted request) nothing_behind (behind_of input)
+    → CanStart input.source request.places (heap_of input)
+can_start files request input checked are =
+    let first = behind_heap input.source files request.places request.heap (wanted_by request.verb request.rest) (behind_of input) are in
+    let kept = keeps_heap input.source files request.verb request.rest first.before (behind_of input) first.are in
+    may_start input.source request.places input.heap checked (subst (SaysHeap input.source request.places) (sym kept) first.says)
 
 -- one more file was read
 pub loaded_more : {source : Module} {start now new : Source} (files : List Held) (i : ℕ) (d : Held) (behind : Behind) (content : Content) → i < length files

@@ -14,27 +14,27 @@ use Rattle.dl_command.specs.Reading.{ReadCause, Fails, IsTooLong}
 use Rattle.dl_command.specs.Texts.{IsFile, AreFiles, IsModuleFile, IsModuleText, IsModuleFault, IsFaultOf, Behind, with_content}
 use Rattle.dl_command.specs.Told.{IsTold, TellsModule, TellsFile, RefusesModule, RefusesFile, EndsWith}
 use Rattle.dl_command.specs.Wanted.{Wanted}
-use Rattle.dl_command.specs.Words.{Text, limit_of}
+use Rattle.dl_command.specs.Words.{Bytes, limit_of}
 use Rattle.dl_command.proofs.FaultLemmas.{one_source, module_or_fault, one_module_fault, one_fault, says_or_fault, text_named}
 
 -- what is told is what is found
-same_text : (told : Option Text) (text found : Text) → told ≡ Some text → Tells told found → text ≡ found
-same_text told text found is tells = subst (λ (o : Option Text). IfSome o (λ b. b ≡ found)) is tells
+same_text : (told : Option Bytes) (text found : Bytes) → told ≡ Some text → Tells told found → text ≡ found
+same_text told text found is tells = subst (λ (o : Option Bytes). IfSome o (λ b. b ≡ found)) is tells
 
-long_text : (told : Option Text) (text : Text) (limit : ℕ) → told ≡ Some text → IfSome told (λ bytes. limit < length bytes) → limit < length text
-long_text told text limit is long = subst (λ (o : Option Text). IfSome o (λ bytes. limit < length bytes)) is long
+long_text : (told : Option Bytes) (text : Bytes) (limit : ℕ) → told ≡ Some text → IfSome told (λ bytes. limit < length bytes) → limit < length text
+long_text told text limit is long = subst (λ (o : Option Bytes). IfSome o (λ bytes. limit < length bytes)) is long
 
 -- a text is not within a limit and beyond it
-too_much : {P : Type 0} (a b : Text) (limit : ℕ) → a ≡ b → length a ≤ limit → limit < length b → P
+too_much : {P : Type 0} (a b : Bytes) (limit : ℕ) → a ≡ b → length a ≤ limit → limit < length b → P
 too_much a b limit same short long = absurd (omega (arith, ap length same, short, long))
 
 -- why a file was not read to its end
-data Unread (file : ℕ) (path : Text) (old new : Source) (status : Status) : Type 0 where
+data Unread (file : ℕ) (path : Bytes) (old new : Source) (status : Status) : Type 0 where
   failed : status ≡ statuses.ReadFault file → Fails file path old new → Unread file path old new status
   beyond : status ≡ statuses.TooLong file → IsTooLong file path (limit_of file) old new → Unread file path old new status
   memory : status ≡ statuses.Memory → Unread file path old new status
 
-unread : (status : Status) (file : ℕ) (path : Text) (old new : Source) → ReadCause status file path old new → Unread file path old new status
+unread : (status : Status) (file : ℕ) (path : Bytes) (old new : Source) → ReadCause status file path old new → Unread file path old new status
 unread (statuses.ReadFault f) file path old new cause = Unread.failed (ap statuses.ReadFault cause.0) cause.1
 unread (statuses.TooLong f) file path old new cause = Unread.beyond (ap statuses.TooLong cause.0) cause.1
 unread statuses.Memory file path old new cause = Unread.memory refl
@@ -46,17 +46,17 @@ unread statuses.WriteFault file path old new cause = absurd cause
 unread (statuses.HeapFault line why) file path old new cause = absurd cause
 
 -- why a file was not taken that is told and is what it should be
-pub data Untaken (file : ℕ) (path : Text) (old new : Source) (status : Status) : Type 0 where
+pub data Untaken (file : ℕ) (path : Bytes) (old new : Source) (status : Status) : Type 0 where
   failed : status ≡ statuses.ReadFault file → Fails file path old new → Untaken file path old new status
   memory : status ≡ statuses.Memory → Untaken file path old new status
 
 module _ {old new : Source} {status : Status} where
-  read_told : {file : ℕ} {path text : Text} → IsTold old file path text → Unread file path old new status → Untaken file path old new status
+  read_told : {file : ℕ} {path text : Bytes} → IsTold old file path text → Unread file path old new status → Untaken file path old new status
   read_told told (Unread.failed is fails) = Untaken.failed is fails
   read_told {file = file} {text = text} told (Unread.beyond is long) = too_much text text (limit_of file) refl told.short (long_text _ text (limit_of file) told.told long.long)
   read_told told (Unread.memory is) = Untaken.memory is
 
-  pub module_untaken : {path : Text} {source : Module} → TellsModule old path source → NoModule path old new status → Untaken 0 path old new status
+  pub module_untaken : {path : Bytes} {source : Module} → TellsModule old path source → NoModule path old new status → Untaken 0 path old new status
   module_untaken {path = path} tells (NoModule.unread cause) = read_told tells.is_told (unread status 0 path old new cause)
   module_untaken tells (NoModule.no_memory is within) = Untaken.memory is
   module_untaken {source = source} tells (NoModule.at_fault line why text is told short is_fault within) =
@@ -71,13 +71,13 @@ module _ {old new : Source} {status : Status} where
       says_or_fault source file.number file.form text tells.content status named (rw (← same) tells.says) is_fault
 
   -- a refusal that is called for is answered
-  read_refused : {file : ℕ} {path : Text} {numbers : List ℕ} {place : ℕ} {answer : Status} → slice_get numbers place ≡ Some file → Unread file path old new status
+  read_refused : {file : ℕ} {path : Bytes} {numbers : List ℕ} {place : ℕ} {answer : Status} → slice_get numbers place ≡ Some file → Unread file path old new status
       → (IsTooLong file path (limit_of file) old new → statuses.TooLong file ≡ answer) → EndsWith numbers place answer status
   read_refused {file = file} {place = place} here (Unread.failed is fails) called = EndsWith.unread place file (omega arith) here is
   read_refused here (Unread.beyond is long) called = EndsWith.answered (is ∙ called long)
   read_refused here (Unread.memory is) called = EndsWith.no_memory is
 
-  pub module_refused : {path : Text} {numbers : List ℕ} {answer : Status} → slice_get numbers 0 ≡ Some 0 → RefusesModule old path answer → NoModule path old new status → EndsWith numbers 0 answer status
+  pub module_refused : {path : Bytes} {numbers : List ℕ} {answer : Status} → slice_get numbers 0 ≡ Some 0 → RefusesModule old path answer → NoModule path old new status → EndsWith numbers 0 answer status
   module_refused here refused (NoModule.no_memory is within) = EndsWith.no_memory is
   module_refused {path = path} here (RefusesModule.too_long text told long is_answer) (NoModule.unread cause) =
       read_refused here (unread status 0 path old new cause) (λ found. sym is_answer)
@@ -105,18 +105,18 @@ module _ {old new : Source} {status : Status} where
       EndsWith.answered (one_fault source file.number file.form found status answer named found_fault (subst (λ t. IsFaultOf source file.number file.form t answer) same is_fault))
 
 -- the text of a module's file
-module_text : {files : Source} {path : Text} {tree : Tree} {source : Module} (file : IsModuleFile files path tree source) → IsModuleText file.text source
+module_text : {files : Source} {path : Bytes} {tree : Tree} {source : Module} (file : IsModuleFile files path tree source) → IsModuleText file.text source
 module_text {tree = tree} file = record { tree = tree; spelled = file.spelled; typed = file.typed }
 
 -- a module that is told, and one that was found, have names by which a heap file can tell their objects
-pub told_named : {files : Source} {path : Text} {source : Module} → SpelledHasNames → TellsModule files path source → HasNames source
+pub told_named : {files : Source} {path : Bytes} {source : Module} → SpelledHasNames → TellsModule files path source → HasNames source
 told_named {source = source} named tells = text_named tells.text source named tells.spells
 
-pub found_named : {files : Source} {path : Text} {tree : Tree} {source : Module} → SpelledHasNames → IsModuleFile files path tree source → HasNames source
+pub found_named : {files : Source} {path : Bytes} {tree : Tree} {source : Module} → SpelledHasNames → IsModuleFile files path tree source → HasNames source
 found_named {source = source} named file = text_named file.text source named (module_text file)
 
 -- a file for which a refusal is called was not taken
-pub module_not_taken : {P : Type 0} {files : Source} {path : Text} {tree : Tree} {source : Module} {answer : Status} → RefusesModule files path answer →
+pub module_not_taken : {P : Type 0} {files : Source} {path : Bytes} {tree : Tree} {source : Module} {answer : Status} → RefusesModule files path answer →
     IsModuleFile files path tree source → P
 module_not_taken (RefusesModule.too_long text told long is_answer) file =
     too_much file.text text (limit_of 0) (sym (same_text _ text file.text told file.told)) file.short long
@@ -133,7 +133,7 @@ file_not_taken {source = source} {file = file} {answer = answer} {content = cont
     says_or_fault source file.number file.form found.text content answer named found.says (subst (λ t. IsFaultOf source file.number file.form t answer) same is_fault)
 
 -- the module that is told is the one that is found
-pub told_source : {files : Source} {path : Text} {tree : Tree} {a b : Module} → TellsModule files path a → IsModuleFile files path tree b → a ≡ b
+pub told_source : {files : Source} {path : Bytes} {tree : Tree} {a b : Module} → TellsModule files path a → IsModuleFile files path tree b → a ≡ b
 told_source {a = a} {b = b} tells file =
     let same = same_text _ tells.text file.text tells.is_told.told file.told in
     one_source file.text a b (subst (λ t. IsModuleText t a) same tells.spells) (module_text file)

@@ -13,7 +13,7 @@ use Rattle.dl_command.specs.declared.words.Verb.{Verb}
 use Rattle.dl_command.specs.declared.words.Verb.TheVariants as verbs
 use Rattle.dl_command.specs.Loading.{IsNumberOf}
 use Rattle.dl_command.specs.Wanted.{Wanted, heap_file, operations_from, wanted, wanted_by, wanted_held}
-use Rattle.dl_command.specs.Words.{Task, Text, heap_number, limit_of}
+use Rattle.dl_command.specs.Words.{Request, Bytes, heap_number, limit_of}
 
 -- what is seen of the element at a place
 pub seen_at : {X Y : Type 0} (f : X → Y) (xs : List X) (i : ℕ) (d : X) → i < length xs → slice_get (map f xs) i ≡ Some (f (get_or xs i d))
@@ -30,7 +30,7 @@ seen_to f xs i d within =
     ∙ ap (λ ys. ys ++ f (get_or xs i d) ∷ []) (sym (take-map f i xs))
 
 -- one more operation file
-pub operations_push : (number : ℕ) (paths : List Text) (path : Text)
+pub operations_push : (number : ℕ) (paths : List Bytes) (path : Bytes)
     → operations_from number (paths ++ path ∷ []) ≡ operations_from number paths ++ record { number = number + length paths; form = forms.Operations; path = path } ∷ []
 operations_push number [] path = ap (λ (n : ℕ). record { number = n; form = forms.Operations; path = path } ∷ []) {x = number} {y = number + 0} (omega arith)
 operations_push number (first ∷ paths) path =
@@ -39,20 +39,20 @@ operations_push number (first ∷ paths) path =
     (later ∙ ap (λ (n : ℕ). operations_from (number + 1) paths ++ record { number = n; form = forms.Operations; path = path } ∷ []) {x = number + 1 + length paths} {y = number + suc (length paths)} (omega arith))
 
 -- what was there before, and one more operation file
-pub operations_more : (old new : List Wanted) (first i : ℕ) (paths : List (Bor Text)) (d : Bor Text) → i < length paths
+pub operations_more : (old new : List Wanted) (first i : ℕ) (paths : List (Bor Bytes)) (d : Bor Bytes) → i < length paths
     → new ≡ old ++ operations_from first (take i (map (λ path. path.now) paths))
     → new ++ record { number = first + i; form = forms.Operations; path = (get_or paths i d).now } ∷ [] ≡ old ++ operations_from first (take (i + 1) (map (λ path. path.now) paths))
 operations_more old new first i paths d within same =
-    let texts = map (λ (path : Bor Text). path.now) paths in
-    let path : Text = (get_or paths i d).now in
-    let shorter : length (take i texts) ≡ i = length-take-le i texts (omega (arith, within, length-map paths (λ (path : Bor Text). path.now))) in
+    let texts = map (λ (path : Bor Bytes). path.now) paths in
+    let path : Bytes = (get_or paths i d).now in
+    let shorter : length (take i texts) ≡ i = length-take-le i texts (omega (arith, within, length-map paths (λ (path : Bor Bytes). path.now))) in
     let one : ℕ → Wanted = λ n. record { number = n; form = forms.Operations; path = path } in
     ap (λ (ws : List Wanted). ws ++ one (first + i) ∷ []) same
     ∙ append_assoc old (operations_from first (take i texts)) (one (first + i) ∷ [])
     ∙ ap (λ (ws : List Wanted). old ++ ws)
     (ap (λ (n : ℕ). operations_from first (take i texts) ++ one (first + n) ∷ []) (sym shorter)
     ∙ sym (operations_push first (take i texts) path)
-    ∙ ap (operations_from first) (sym (seen_to (λ (path : Bor Text). path.now) paths i d within)))
+    ∙ ap (operations_from first) (sym (seen_to (λ (path : Bor Bytes). path.now) paths i d within)))
 
 -- a file that is neither the module nor the heap file is not long
 pub plain_limit : (file : ℕ) → (0 < file) × (file < heap_number) → limit_of file ≡ 4194304
@@ -62,16 +62,16 @@ plain_limit file between = rw (ne_eqb file 0 (λ e. omega (arith, e, between.0))
 abbrev HasNumber : Wanted → Type 0
 HasNumber file = IsNumberOf file.form file.number
 
-operations_numbered : (number : ℕ) (paths : List Text) → 0 < number → number + length paths ≤ heap_number → All HasNumber (operations_from number paths)
+operations_numbered : (number : ℕ) (paths : List Bytes) → 0 < number → number + length paths ≤ heap_number → All HasNumber (operations_from number paths)
 operations_numbered number [] some few = All-nil HasNumber
 operations_numbered number (path ∷ paths) some few =
     All-cons HasNumber _ (operations_from (number + 1) paths) (some, omega (arith, few)) (operations_numbered (number + 1) paths (omega arith) (omega (arith, few)))
 
-heap_numbered : (places : ℕ) (heap : Option Text) → All HasNumber (heap_file places heap)
+heap_numbered : (places : ℕ) (heap : Option Bytes) → All HasNumber (heap_file places heap)
 heap_numbered places None = All-nil HasNumber
 heap_numbered places (Some path) = All-cons HasNumber _ [] refl (All-nil HasNumber)
 
-rest_numbered : (verb : Verb) (rest : List Text) → length rest ≤ 65 → All HasNumber (wanted_by verb rest)
+rest_numbered : (verb : Verb) (rest : List Bytes) → length rest ≤ 65 → All HasNumber (wanted_by verb rest)
 rest_numbered verbs.Serial rest few = operations_numbered 1 rest (omega arith) (omega (arith, few))
 rest_numbered verbs.Run rest few = operations_numbered 1 rest (omega arith) (omega (arith, few))
 rest_numbered verbs.Step [] few = All-nil HasNumber
@@ -80,9 +80,9 @@ rest_numbered verbs.Step (path ∷ paths) few =
 rest_numbered verbs.Show rest few = operations_numbered 1 rest (omega arith) (omega (arith, few))
 rest_numbered verbs.Work rest few = All-nil HasNumber
 
-pub wanted_numbered : (task : Task) → length task.rest ≤ 65 → All (λ (file : Wanted). IsNumberOf file.form file.number) (wanted task)
-wanted_numbered task few =
-    All-append HasNumber (heap_file task.places task.heap) (wanted_by task.verb task.rest) (heap_numbered task.places task.heap) (rest_numbered task.verb task.rest few)
+pub wanted_numbered : (request : Request) → length request.rest ≤ 65 → All (λ (file : Wanted). IsNumberOf file.form file.number) (wanted request)
+wanted_numbered request few =
+    All-append HasNumber (heap_file request.places request.heap) (wanted_by request.verb request.rest) (heap_numbered request.places request.heap) (rest_numbered request.verb request.rest few)
 
 -- what holds of the files as they are seen holds of them as they are held
 pub held_numbered : (files : List Held) → All (λ (file : Wanted). IsNumberOf file.form file.number) (map wanted_held files) → All (λ (file : Held). IsNumberOf file.form file.number) files

@@ -34,7 +34,7 @@ use Rattle.clap.proofs.ValueTestLemmas.{accepts-Accepts, Accepts-accepts}
 use Rattle.clap.proofs.WalkLemmas.{both, one_text-rows}
 use Rattle.clap.specs.declared.error.Error.{Error}
 use Rattle.clap.specs.declared.error.kind.ErrorKind.TheVariants as kinds
-use Rattle.dl_command.specs.Words.{Line, MayHave, Task, Text, command_line, command_rule, first_rule, heap_rule, line_of_matches, number_of, places_parser, places_rule, rest_rule, rules, task_by, task_of, task_of_line, task_of_matches, task_of_words}
+use Rattle.dl_command.specs.Words.{Line, MayHave, Request, Bytes, command_line, command_rule, first_rule, heap_rule, line_of_matches, number_of, places_parser, places_rule, rest_rule, rules, request_by, request_of, request_of_line, request_of_matches, request_of_words}
 use Rattle.dl_command.specs.declared.words.Command.{Command as Held}
 use Rattle.dl_command.specs.declared.words.CommandRow.{CommandRow}
 use Rattle.dl_command.specs.declared.words.Verb.TheVariants as verbs
@@ -45,7 +45,7 @@ abbrev numbers : ValueParser
 numbers = parsers.Unsigned 0 (2 ^ 32 - 1)
 
 -- what a number is read of a text is the number that the text says
-pub read_number : {E : Type 0} (G : List ℕ → Result ℕ E → Type 0) (t : Text) (o : Option ℕ) → ReadsOne G t o
+pub read_number : {E : Type 0} (G : List ℕ → Result ℕ E → Type 0) (t : Bytes) (o : Option ℕ) → ReadsOne G t o
     → ((u : List ℕ) (x : Result ℕ E) → G u x → ParsesUnsigned 32 10 u x) → o ≡ number_of t
 read_number G t (Some n) read only =
     let h = only t (Ok n) read in
@@ -63,13 +63,13 @@ read_number G t None read only = go (is_unsigned_in 0 (2 ^ 32 - 1) t) refl
         absurd (only t (Err read.0) read.1 (a.0, omega (arith, most)))
 
 -- the number that an option's text says, where it has one
-pub number_read : (text : Option Text) (o : Option ℕ) → (text ≡ None → o ≡ None) → ((t : Text) → text ≡ Some t → o ≡ number_of t)
+pub number_read : (text : Option Bytes) (o : Option ℕ) → (text ≡ None → o ≡ None) → ((t : Bytes) → text ≡ Some t → o ≡ number_of t)
     → o ≡ option_and_then number_of text
 number_read None o none value = none refl
 number_read (Some t) o none value = value t refl
 
 -- a text that says a number is read as it
-said_number : (t : Text) (n : ℕ) → number_of t ≡ Some n → ParsesUnsigned {E = Unit {0}} 32 10 t (Ok n)
+said_number : (t : Bytes) (n : ℕ) → number_of t ≡ Some n → ParsesUnsigned {E = Unit {0}} 32 10 t (Ok n)
 said_number t n said = go (is_unsigned_in 0 (2 ^ 32 - 1) t) refl
   where
     go : (b : Bool) → is_unsigned_in 0 (2 ^ 32 - 1) t ≡ b → ParsesUnsigned {E = Unit {0}} 32 10 t (Ok n)
@@ -153,13 +153,13 @@ module _ (line : Command) (m : ArgMatches) (shape : app_of line ≡ command_line
         ])
   ]
 
-  how : (id : Text) → bytes_eq id (codes "places") ≡ true → (r : Reading) → HasReading p.built id r → r ≡ readings.WithoutMinus
+  how : (id : Bytes) → bytes_eq id (codes "places") ≡ true → (r : Reading) → HasReading p.built id r → r ≡ readings.WithoutMinus
   how id same r any =
       let is : id ≡ codes "places" = (bytes_eq-Decides id (codes "places")).0 same in
       let key : bytes_eq any.1.id.now (codes "places") ≡ true = rw is at any.4.0 in
       sym any.4.1 ∙ ap reading_of (parser_is any.0 any.1 any.2 any.3 key)
 
-  passed : (id v : Text) → bytes_eq id (codes "places") ≡ true → PassesArg p.built id v → IsSignedIn (pos 1) (pos 65536) v
+  passed : (id v : Bytes) → bytes_eq id (codes "places") ≡ true → PassesArg p.built id v → IsSignedIn (pos 1) (pos 65536) v
   passed id v same pass =
       let is : id ≡ codes "places" = (bytes_eq-Decides id (codes "places")).0 same in
       let key : bytes_eq pass.1.id.now (codes "places") ≡ true = rw is at pass.4.0 in
@@ -184,7 +184,7 @@ module _ (line : Command) (m : ArgMatches) (shape : app_of line ≡ command_line
       ] in
       go x.vals.items all (rw reading at said)
     where
-      go : (vals : List (Bor Text)) → All (λ v. PassesArg p.built e.0.now v.now) vals
+      go : (vals : List (Bor Bytes)) → All (λ v. PassesArg p.built e.0.now v.now) vals
           → option_and_then number_of (option_map (λ s. read_as readings.WithoutMinus s.now) (slice_get vals 0)) ≡ Some n → (1 ≤ n) × (n ≤ 65536)
       go [] all says = let none : None ≡ Some n = says in absurd (cc)
       go (v ∷ vs) all says =
@@ -213,14 +213,14 @@ module _ (rows : List Row) where
   pub no_command : first_of (codes "COMMAND") rows ≡ None → line_of_matches rows ≡ None
   no_command none = rw none refl
 
-  pub no_first : (command : Text) → first_of (codes "COMMAND") rows ≡ Some command → first_of (codes "FIRST") rows ≡ None → line_of_matches rows ≡ None
+  pub no_first : (command : Bytes) → first_of (codes "COMMAND") rows ≡ Some command → first_of (codes "FIRST") rows ≡ None → line_of_matches rows ≡ None
   no_first command has none = rw (has, none) refl
 
-  pub no_number : (command first : Text) → first_of (codes "COMMAND") rows ≡ Some command → first_of (codes "FIRST") rows ≡ Some first
+  pub no_number : (command first : Bytes) → first_of (codes "COMMAND") rows ≡ Some command → first_of (codes "FIRST") rows ≡ Some first
       → option_and_then number_of (one_of (codes "places") rows) ≡ None → line_of_matches rows ≡ None
   no_number command first has has_first none = rw (has, has_first, none) refl
 
-  pub line_given : (command first : Text) (rest : List Text) (places : ℕ) (heap : Option Text) → first_of (codes "COMMAND") rows ≡ Some command
+  pub line_given : (command first : Bytes) (rest : List Bytes) (places : ℕ) (heap : Option Bytes) → first_of (codes "COMMAND") rows ≡ Some command
       → first_of (codes "FIRST") rows ≡ Some first → option_and_then number_of (one_of (codes "places") rows) ≡ Some places
       → rest ≡ unwrap_or (all_of (codes "REST") rows) [] → heap ≡ first_of (codes "heap") rows
       → line_of_matches rows ≡ Some (record { command = command; first = first; rest = rest; places = places; heap = heap })
@@ -229,7 +229,7 @@ module _ (rows : List Row) where
   line_number : (line : Line) → line_of_matches rows ≡ Some line → option_and_then number_of (one_of (codes "places") rows) ≡ Some line.places
   line_number line given = go (first_of (codes "COMMAND") rows) (first_of (codes "FIRST") rows) (option_and_then number_of (one_of (codes "places") rows)) given
     where
-      go : (a b : Option Text) (n : Option ℕ) → option_and_then (λ command. option_and_then (λ first. option_map (λ places. record {
+      go : (a b : Option Bytes) (n : Option ℕ) → option_and_then (λ command. option_and_then (λ first. option_map (λ places. record {
         command = command;
         first = first;
         rest = unwrap_or (all_of (codes "REST") rows) [];
@@ -242,7 +242,7 @@ module _ (rows : List Row) where
       go (Some x) (Some y) (Some n) e = ap (option_map (λ (l : Line). l.places)) e
 
 -- a parse of the words by the command line
-module _ (line : Command) (words : List Text) (shape : app_of line ≡ command_line) where
+module _ (line : Command) (words : List Bytes) (shape : app_of line ≡ command_line) where
   pub rows_are : (m : ArgMatches) → HasMatchesOf (app_of line) words m → rows_of (found_of m) ≡ matches_of command_line words
   rows_are m has = (has (ap is_simple shape)).0 ∙ ap (λ a. matches_of a words) shape
 
@@ -250,96 +250,96 @@ module _ (line : Command) (words : List Text) (shape : app_of line ≡ command_l
   takes_words m none = sym (ap (λ a. fault_of a words) shape) ∙ none (ap is_simple_and_free shape)
 
   pub refuses_words : (e : Error) → (is_simple_and_free (app_of line) ≡ true → HasKind (fault_of (app_of line) words) e) → kind_of e ≢ kinds.OutOfMemory
-      → task_of_words words ≡ None
+      → request_of_words words ≡ None
   refuses_words e has memory = elim (subst (λ a. HasKind (fault_of a words) e) shape (has (ap is_simple_and_free shape))) [
     | inl out ↦ absurd (memory out)
     | inr among ↦ go (fault_of command_line words) refl among
   ]
     where
-      go : (ks : Kinds) → fault_of command_line words ≡ ks → IsAmong (kind_of e) ks → task_of_words words ≡ None
+      go : (ks : Kinds) → fault_of command_line words ≡ ks → IsAmong (kind_of e) ks → request_of_words words ≡ None
       go [] is among = absurd among
       go (k ∷ ks) is among = rw is refl
 
 -- words that the command line takes give what its matches give
-pub words_give : (words : List Text) (rows : List Row) → fault_of command_line words ≡ [] → rows ≡ matches_of command_line words
-    → task_of_words words ≡ task_of_matches rows
+pub words_give : (words : List Bytes) (rows : List Row) → fault_of command_line words ≡ [] → rows ≡ matches_of command_line words
+    → request_of_words words ≡ request_of_matches rows
 words_give words rows none same = rw (none, same) refl
 
 -- the command that a row gives has as many words as the row asks for
-abbrev IsBy : Line → CommandRow → Task → Type 0
-IsBy line row task = (row.fewest ≤ length task.rest) × (length task.rest ≤ row.most) × (task.verb ≡ row.verb) × (task.places ≡ line.places)
+abbrev IsBy : Line → CommandRow → Request → Type 0
+IsBy line row request = (row.fewest ≤ length request.rest) × (length request.rest ≤ row.most) × (request.verb ≡ row.verb) × (request.places ≡ line.places)
 
-abbrev made : Line → CommandRow → Task
+abbrev made : Line → CommandRow → Request
 made line row = record { verb = row.verb; first = line.first; rest = line.rest; places = line.places; heap = line.heap }
 
-by_row : (line : Line) (row : CommandRow) (task : Task) → task_by line row ≡ Some task → IsBy line row task
-by_row line row task given =
+by_row : (line : Line) (row : CommandRow) (request : Request) → request_by line row ≡ Some request → IsBy line row request
+by_row line row request given =
     go (nat_lt (length line.rest) row.fewest) refl (nat_lt row.most (length line.rest)) refl (is_some line.heap && not row.takes_heap) refl
   where
     go : (a : Bool) → nat_lt (length line.rest) row.fewest ≡ a → (b : Bool) → nat_lt row.most (length line.rest) ≡ b
-        → (c : Bool) → is_some line.heap && not row.takes_heap ≡ c → IsBy line row task
-    go true few b many c none_taken = let none : None ≡ Some task = rw few at given in absurd (cc)
-    go false few true many c none_taken = let none : None ≡ Some task = rw (few, many) at given in absurd (cc)
-    go false few false many true none_taken = let none : None ≡ Some task = rw (few, many, none_taken) at given in absurd (cc)
+        → (c : Bool) → is_some line.heap && not row.takes_heap ≡ c → IsBy line row request
+    go true few b many c none_taken = let none : None ≡ Some request = rw few at given in absurd (cc)
+    go false few true many c none_taken = let none : None ≡ Some request = rw (few, many) at given in absurd (cc)
+    go false few false many true none_taken = let none : None ≡ Some request = rw (few, many, none_taken) at given in absurd (cc)
     go false few false many false taken =
-        let same : Some (made line row) ≡ Some task = rw (few, many, taken) at given in
-        let is : made line row ≡ task = ap (λ o. unwrap_or o (made line row)) same in
+        let same : Some (made line row) ≡ Some request = rw (few, many, taken) at given in
+        let is : made line row ≡ request = ap (λ o. unwrap_or o (made line row)) same in
         subst (IsBy line row) is (ltb-false _ _ few, ltb-false _ _ many, refl, refl)
 
 -- the table gives as many words REST as its row asks for
-abbrev IsAsked : Task → Type 0
-IsAsked task = MayHave task.verb (length task.rest)
+abbrev IsAsked : Request → Type 0
+IsAsked request = MayHave request.verb (length request.rest)
 
-asked : (line : Line) (row : CommandRow) (task : Task) → task_by line row ≡ Some task
-    → (row.fewest ≤ length task.rest → length task.rest ≤ row.most → MayHave row.verb (length task.rest)) → IsAsked task × (task.places ≡ line.places)
-asked line row task by may =
-    let asks = by_row line row task by in
-    (subst (λ verb. MayHave verb (length task.rest)) (sym asks.2) (may asks.0 asks.1), asks.3)
+asked : (line : Line) (row : CommandRow) (request : Request) → request_by line row ≡ Some request
+    → (row.fewest ≤ length request.rest → length request.rest ≤ row.most → MayHave row.verb (length request.rest)) → IsAsked request × (request.places ≡ line.places)
+asked line row request by may =
+    let asks = by_row line row request by in
+    (subst (λ verb. MayHave verb (length request.rest)) (sym asks.2) (may asks.0 asks.1), asks.3)
 
-table_asks : (line : Line) (task : Task) → task_of_line line ≡ Some task → IsAsked task × (task.places ≡ line.places)
-table_asks line task given =
+table_asks : (line : Line) (request : Request) → request_of_line line ≡ Some request → IsAsked request × (request.places ≡ line.places)
+table_asks line request given =
     go (bytes_eq (codes "serial") line.command) refl (bytes_eq (codes "run") line.command) refl (bytes_eq (codes "step") line.command) refl (bytes_eq (codes "show") line.command) refl
     (bytes_eq (codes "work") line.command) refl
   where
     go : (a : Bool) → bytes_eq (codes "serial") line.command ≡ a → (r : Bool) → bytes_eq (codes "run") line.command ≡ r → (s : Bool) → bytes_eq (codes "step") line.command ≡ s
-        → (b : Bool) → bytes_eq (codes "show") line.command ≡ b → (d : Bool) → bytes_eq (codes "work") line.command ≡ d → IsAsked task × (task.places ≡ line.places)
+        → (b : Bool) → bytes_eq (codes "show") line.command ≡ b → (d : Bool) → bytes_eq (codes "work") line.command ≡ d → IsAsked request × (request.places ≡ line.places)
     go true serial r run s step b show d work =
-        asked line (record { verb = verbs.Serial; fewest = 1; most = 1; takes_heap = true }) task (rw serial at given) (λ fewest most. omega (arith, fewest, most))
+        asked line (record { verb = verbs.Serial; fewest = 1; most = 1; takes_heap = true }) request (rw serial at given) (λ fewest most. omega (arith, fewest, most))
     go false serial true run s step b show d work =
-        asked line (record { verb = verbs.Run; fewest = 1; most = 64; takes_heap = true }) task (rw (serial, run) at given) (λ fewest most. (fewest, most))
+        asked line (record { verb = verbs.Run; fewest = 1; most = 64; takes_heap = true }) request (rw (serial, run) at given) (λ fewest most. (fewest, most))
     go false serial false run true step b show d work =
-        asked line (record { verb = verbs.Step; fewest = 2; most = 65; takes_heap = true }) task (rw (serial, run, step) at given) (λ fewest most. (fewest, most))
+        asked line (record { verb = verbs.Step; fewest = 2; most = 65; takes_heap = true }) request (rw (serial, run, step) at given) (λ fewest most. (fewest, most))
     go false serial false run false step true show d work =
-        asked line (record { verb = verbs.Show; fewest = 0; most = 0; takes_heap = false }) task (rw (serial, run, step, show) at given) (λ fewest most. omega (arith, most))
+        asked line (record { verb = verbs.Show; fewest = 0; most = 0; takes_heap = false }) request (rw (serial, run, step, show) at given) (λ fewest most. omega (arith, most))
     go false serial false run false step false show true work =
-        asked line (record { verb = verbs.Work; fewest = 2; most = 2; takes_heap = false }) task (rw (serial, run, step, show, work) at given) (λ fewest most. omega (arith, fewest, most))
-    go false serial false run false step false show false work = let none : None ≡ Some task = rw (serial, run, step, show, work) at given in absurd (cc)
+        asked line (record { verb = verbs.Work; fewest = 2; most = 2; takes_heap = false }) request (rw (serial, run, step, show, work) at given) (λ fewest most. omega (arith, fewest, most))
+    go false serial false run false step false show false work = let none : None ≡ Some request = rw (serial, run, step, show, work) at given in absurd (cc)
 
 -- what is asked of the command that the matches give
-pub command_asks : (rows : List Row) (task : Task) → task_of_matches rows ≡ Some task
-    → IsAsked task × (option_and_then number_of (one_of (codes "places") rows) ≡ Some task.places)
-command_asks rows task given = go (line_of_matches rows) refl given
+pub command_asks : (rows : List Row) (request : Request) → request_of_matches rows ≡ Some request
+    → IsAsked request × (option_and_then number_of (one_of (codes "places") rows) ≡ Some request.places)
+command_asks rows request given = go (line_of_matches rows) refl given
   where
-    go : (o : Option Line) → line_of_matches rows ≡ o → option_and_then task_of_line o ≡ Some task
-        → IsAsked task × (option_and_then number_of (one_of (codes "places") rows) ≡ Some task.places)
-    go None e h = let none : None ≡ Some task = h in absurd (cc)
+    go : (o : Option Line) → line_of_matches rows ≡ o → option_and_then request_of_line o ≡ Some request
+        → IsAsked request × (option_and_then number_of (one_of (codes "places") rows) ≡ Some request.places)
+    go None e h = let none : None ≡ Some request = h in absurd (cc)
     go (Some line) e h =
-        let asks = table_asks line task h in
+        let asks = table_asks line request h in
         (asks.0, line_number rows line e ∙ ap (λ n. Some n) (sym asks.1))
 
 -- what holds of the command that was read
 module _ (result : Result Held WordsFault) where
-  pub same_words : (a b : Option Task) → a ≡ b → IfOk result (λ command. b ≡ Some (task_of command)) → IfOk result (λ command. a ≡ Some (task_of command))
-  same_words a b same = IfOk-weaker result (λ command. b ≡ Some (task_of command)) (λ command. a ≡ Some (task_of command)) (λ command given. same ∙ given)
+  pub same_words : (a b : Option Request) → a ≡ b → IfOk result (λ command. b ≡ Some (request_of command)) → IfOk result (λ command. a ≡ Some (request_of command))
+  same_words a b same = IfOk-weaker result (λ command. b ≡ Some (request_of command)) (λ command. a ≡ Some (request_of command)) (λ command given. same ∙ given)
 
-  module _ (rows : List Row) (ok : IfOk result (λ command. task_of_matches rows ≡ Some (task_of command))) where
+  module _ (rows : List Row) (ok : IfOk result (λ command. request_of_matches rows ≡ Some (request_of command))) where
     pub given_rest : IfOk result (λ command. MayHave command.verb (length command.rest.items))
-    given_rest = IfOk-weaker result (λ command. task_of_matches rows ≡ Some (task_of command)) (λ command. MayHave command.verb (length command.rest.items))
-        (λ command given. let asks = command_asks rows (task_of command) given in
+    given_rest = IfOk-weaker result (λ command. request_of_matches rows ≡ Some (request_of command)) (λ command. MayHave command.verb (length command.rest.items))
+        (λ command given. let asks = command_asks rows (request_of command) given in
         subst (λ n. MayHave command.verb n) (length-map command.rest.items (λ path. path.now)) asks.0) ok
 
     pub given_places : ((n : ℕ) → option_and_then number_of (one_of (codes "places") rows) ≡ Some n → (1 ≤ n) × (n ≤ 65536))
         → IfOk result (λ command. (1 ≤ command.places) × (command.places ≤ 65536))
-    given_places ranges = IfOk-weaker result (λ command. task_of_matches rows ≡ Some (task_of command)) (λ command. (1 ≤ command.places) × (command.places ≤ 65536))
-        (λ command given. let asks = command_asks rows (task_of command) given in
+    given_places ranges = IfOk-weaker result (λ command. request_of_matches rows ≡ Some (request_of command)) (λ command. (1 ≤ command.places) × (command.places ≤ 65536))
+        (λ command given. let asks = command_asks rows (request_of command) given in
         ranges command.places asks.1) ok

@@ -20,7 +20,7 @@ use Rattle.dl_work.specs.Works.{file_of, files_of, schedule_of}
 use Rattle.dl_command.specs.declared.numbers.Asked.{Asked}
 use Rattle.dl_command.specs.declared.status.Status.{Status}
 use Rattle.dl_command.specs.declared.status.Status.TheVariants as statuses
-use Rattle.dl_command.specs.declared.top.Outcome.{Outcome}
+use Rattle.dl_command.specs.declared.top.Ending.{Ending}
 use Rattle.dl_command.specs.declared.words.Verb.{Verb}
 use Rattle.dl_command.specs.declared.words.Verb.TheVariants as verbs
 use Rattle.dl_command.specs.Causes.{Cut}
@@ -29,7 +29,7 @@ use Rattle.dl_command.specs.declared.words.WordsFault.{WordsFault}
 use Rattle.dl_command.specs.declared.words.WordsFault.TheVariants as faults
 use Rattle.dl_command.specs.Promise.{Ends, IsScheduled, Prints, nothing_done}
 use Rattle.dl_command.specs.Wishes.{Comes, Keeps, Wish, OverFiles, FromSeed, still_wish_of_words, wish_by, wish_of, wish_of_words}
-use Rattle.dl_command.specs.Words.{Task, Text, status_of, task_of_words, unless_run}
+use Rattle.dl_command.specs.Words.{Request, Bytes, status_of, request_of_words, unless_run}
 use Rattle.dl_command.specs.Work.{FinishesWork, IsWorkModule, Works}
 use Rattle.dl_command.proofs.PromiseLemmas.{ends_keeps, still_is}
 
@@ -58,7 +58,7 @@ works_is asked places source all gives end history refusals left heap waits repl
     figures w r = record { seed = asked.seed; count = asked.count; callers = asked.callers; waits = w; replayed = r }
 
 -- what is printed is printed by one of two statuses
-by_status : (before after : Taken) (status : Status) (text : Text) → Prints status text before after → (status ≡ statuses.Done) ⊎ (status ≡ statuses.WriteFault)
+by_status : (before after : Taken) (status : Status) (text : Bytes) → Prints status text before after → (status ≡ statuses.Done) ⊎ (status ≡ statuses.WriteFault)
 by_status before after statuses.Done text prints = inl refl
 by_status before after statuses.WriteFault text prints = inr refl
 by_status before after statuses.Usage text prints = absurd prints
@@ -72,12 +72,12 @@ by_status before after (statuses.HeapFault line why) text prints = absurd prints
 -- the clauses of a call that finishes so
 module _ {asked : Asked} {places : ℕ} {before after : Taken} {status : Status} {history : Seen} {refusals : List Refusal} where
   work_done : FinishesWork asked places before after status history refusals → status ≡ statuses.Done →
-      (text : Text) × Works asked places history refusals text × Took before.written after.written text
+      (text : Bytes) × Works asked places history refusals text × Took before.written after.written text
   work_done (FinishesWork.no_memory is same no_history no_refusals) done = let e : statuses.Memory ≡ statuses.Done = sym is ∙ done in absurd (cc)
   work_done (FinishesWork.wrote text works prints) done = (text, works, subst (λ s. Prints s text before after) done prints)
 
   work_cut : FinishesWork asked places before after status history refusals → status ≡ statuses.WriteFault →
-      (text : Text) × Works asked places history refusals text × Cut text before after
+      (text : Bytes) × Works asked places history refusals text × Cut text before after
   work_cut (FinishesWork.no_memory is same no_history no_refusals) fault = let e : statuses.Memory ≡ statuses.WriteFault = sym is ∙ fault in absurd (cc)
   work_cut (FinishesWork.wrote text works prints) fault = (text, works, subst (λ s. Prints s text before after) fault prints)
 
@@ -97,11 +97,11 @@ module _ {asked : Asked} {places : ℕ} {before after : Taken} {status : Status}
   ]
 
 -- a call keeps its promise by how it comes to its end
-pub comes_keeps : (wish : Option Wish) (old new : Source) (before after : Taken) (outcome : Outcome) → SpelledHasNames
-    → Comes wish old new before after outcome.status outcome.history outcome.refusals → Keeps wish old new before after outcome
-comes_keeps None old new before after outcome named comes = ends_keeps None old new before after outcome named comes
-comes_keeps (Some (OverFiles task)) old new before after outcome named comes = ends_keeps (Some task) old new before after outcome named comes
-comes_keeps (Some (FromSeed asked places)) old new before after outcome named comes = record {
+pub comes_keeps : (wish : Option Wish) (old new : Source) (before after : Taken) (ending : Ending) → SpelledHasNames
+    → Comes wish old new before after ending.status ending.history ending.refusals → Keeps wish old new before after ending
+comes_keeps None old new before after ending named comes = ends_keeps None old new before after ending named comes
+comes_keeps (Some (OverFiles request)) old new before after ending named comes = ends_keeps (Some request) old new before after ending named comes
+comes_keeps (Some (FromSeed asked places)) old new before after ending named comes = record {
   untouched = comes.0;
   done = work_done comes.1;
   write_fault = work_cut comes.1;
@@ -113,7 +113,7 @@ comes_keeps (Some (FromSeed asked places)) old new before after outcome named co
 comes_no_memory : (wish : Option Wish) (files : Source) (taken : Taken) (status : Status) (history : Seen) (refusals : List Refusal) → status ≡ statuses.Memory → history ≡ nothing_done → refusals ≡ []
     → Comes wish files files taken taken status history refusals
 comes_no_memory None files taken status history refusals is no_history no_refusals = Ends.unread is refl refl no_history no_refusals
-comes_no_memory (Some (OverFiles task)) files taken status history refusals is no_history no_refusals = Ends.unread is refl refl no_history no_refusals
+comes_no_memory (Some (OverFiles request)) files taken status history refusals is no_history no_refusals = Ends.unread is refl refl no_history no_refusals
 comes_no_memory (Some (FromSeed asked places)) files taken status history refusals is no_history no_refusals = (refl, FinishesWork.no_memory is refl no_history no_refusals)
 
 -- a call whose words were not read comes to its end by what is amiss with them
@@ -125,28 +125,28 @@ comes_without_command wish files taken status history refusals faults.Memory is 
     comes_no_memory wish files taken status history refusals is no_history no_refusals
 
 -- what the words ask for that give a command
-pub wish_is : (words : List Text) (task : Task) (verb : Verb) → task_of_words words ≡ Some task → task.verb ≡ verb → wish_of_words words ≡ wish_by verb task
-wish_is words task verb is same = ap wish_of is ∙ ap (λ (v : Verb). wish_by v task) same
+pub wish_is : (words : List Bytes) (request : Request) (verb : Verb) → request_of_words words ≡ Some request → request.verb ≡ verb → wish_of_words words ≡ wish_by verb request
+wish_is words request verb is same = ap wish_of is ∙ ap (λ (v : Verb). wish_by v request) same
 
 -- the same, where it needs no threads
-pub still_wish_is : (words : List Text) (task : Task) (verb : Verb) → task_of_words words ≡ Some task → task.verb ≡ verb
-    → still_wish_of_words words ≡ option_and_then (wish_by verb) (unless_run verb task)
-still_wish_is words task verb is same = ap wish_of (still_is words task verb is same) ∙ of_verb verb same
+pub still_wish_is : (words : List Bytes) (request : Request) (verb : Verb) → request_of_words words ≡ Some request → request.verb ≡ verb
+    → still_wish_of_words words ≡ option_and_then (wish_by verb) (unless_run verb request)
+still_wish_is words request verb is same = ap wish_of (still_is words request verb is same) ∙ of_verb verb same
   where
-    of_verb : (v : Verb) → task.verb ≡ v → wish_of (unless_run v task) ≡ option_and_then (wish_by v) (unless_run v task)
+    of_verb : (v : Verb) → request.verb ≡ v → wish_of (unless_run v request) ≡ option_and_then (wish_by v) (unless_run v request)
     of_verb verbs.Run e = refl
-    of_verb verbs.Serial e = ap (λ (w : Verb). wish_by w task) e
-    of_verb verbs.Step e = ap (λ (w : Verb). wish_by w task) e
-    of_verb verbs.Show e = ap (λ (w : Verb). wish_by w task) e
-    of_verb verbs.Work e = ap (λ (w : Verb). wish_by w task) e
+    of_verb verbs.Serial e = ap (λ (w : Verb). wish_by w request) e
+    of_verb verbs.Step e = ap (λ (w : Verb). wish_by w request) e
+    of_verb verbs.Show e = ap (λ (w : Verb). wish_by w request) e
+    of_verb verbs.Work e = ap (λ (w : Verb). wish_by w request) e
 
 -- a call of `work` comes to its end as it finishes, where the words say its numbers, and else as a call without a command
-pub comes_work : (task : Task) (asked : Asked) (before after : Taken) (status : Status) (history : Seen) (refusals : List Refusal) → asked_of task.first task.rest ≡ Some asked
-    → FinishesWork asked task.places before after status history refusals → (files : Source) → Comes (wish_by verbs.Work task) files files before after status history refusals
-comes_work task asked before after status history refusals is finishes files =
-    subst (λ (o : Option Asked). Comes (option_map (λ (a : Asked). FromSeed a task.places) o) files files before after status history refusals) (sym is) (refl, finishes)
+pub comes_work : (request : Request) (asked : Asked) (before after : Taken) (status : Status) (history : Seen) (refusals : List Refusal) → asked_of request.first request.rest ≡ Some asked
+    → FinishesWork asked request.places before after status history refusals → (files : Source) → Comes (wish_by verbs.Work request) files files before after status history refusals
+comes_work request asked before after status history refusals is finishes files =
+    subst (λ (o : Option Asked). Comes (option_map (λ (a : Asked). FromSeed a request.places) o) files files before after status history refusals) (sym is) (refl, finishes)
 
-pub comes_unasked : (task : Task) (before after : Taken) (status : Status) (history : Seen) (refusals : List Refusal) → asked_of task.first task.rest ≡ None
-    → (files : Source) → Ends None files files before after status history refusals → Comes (wish_by verbs.Work task) files files before after status history refusals
-comes_unasked task before after status history refusals is files ends =
-    subst (λ (o : Option Asked). Comes (option_map (λ (a : Asked). FromSeed a task.places) o) files files before after status history refusals) (sym is) ends
+pub comes_unasked : (request : Request) (before after : Taken) (status : Status) (history : Seen) (refusals : List Refusal) → asked_of request.first request.rest ≡ None
+    → (files : Source) → Ends None files files before after status history refusals → Comes (wish_by verbs.Work request) files files before after status history refusals
+comes_unasked request before after status history refusals is files ends =
+    subst (λ (o : Option Asked). Comes (option_map (λ (a : Asked). FromSeed a request.places) o) files files before after status history refusals) (sym is) ends

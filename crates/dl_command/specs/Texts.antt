@@ -9,7 +9,7 @@ use Rattle.dl_heapfile.specs.Faults.{Reads}
 use Rattle.dl_heapfile.specs.declared.fault.HeapFault.{HeapFault}
 use Rattle.dl_heapfile.specs.declared.fault.HeapFault.TheVariants as heap_faults
 use Rattle.dl_syntax.specs.Rules.{IsCallsFile, IsCallsFault}
-use Rattle.dl_grammar.specs.Texts.{Spells as SpellsTree, IsSyntaxFault}
+use Rattle.dl_grammar.specs.Texts.{Spells, IsSyntaxFault}
 use Rattle.dl_grammar.specs.declared.tree.Tree.{Tree}
 use Rattle.dl_grammar.specs.declared.fault.SyntaxFault.TheVariants as syntax
 use Rattle.dl_types.specs.Rules.{Types, IsTypeFault}
@@ -33,22 +33,22 @@ use Rattle.dl_command.specs.declared.status.ModuleWhy.{ModuleWhy}
 use Rattle.dl_command.specs.declared.status.ModuleWhy.TheVariants as modules
 use Rattle.dl_command.specs.declared.status.OpsWhy.TheVariants as whys
 use Rattle.dl_command.specs.Wanted.{Wanted, wanted}
-use Rattle.dl_command.specs.Words.{Text, Task, limit_of}
+use Rattle.dl_command.specs.Words.{Bytes, Request, limit_of}
 
 -- the text spells a tree, and the tree is this module
-pub record IsModuleText (text : Text) (source : Module) : Type 0 where
+pub record IsModuleText (text : Bytes) (source : Module) : Type 0 where
   pub tree : Tree
-  pub spelled : SpellsTree text tree
+  pub spelled : Spells text tree
   pub typed : Types tree source
 
 -- the text spells a tree of which this is the first fault
-pub record HasTypeFault (text : Text) (fault : TypeFault) : Type 0 where
+pub record HasTypeFault (text : Bytes) (fault : TypeFault) : Type 0 where
   pub tree : Tree
-  pub spelled : SpellsTree text tree
+  pub spelled : Spells text tree
   pub at_fault : IsTypeFault tree fault
 
 -- the text is no module, and this is its first fault: of its bytes, of its tokens, or of its names and types
-abbrev pub IsModuleFault : Text → ℕ → ModuleWhy → Type 0
+abbrev pub IsModuleFault : Bytes → ℕ → ModuleWhy → Type 0
 IsModuleFault text line modules.NotAscii = (at : ℕ) × IsSyntaxFault text (syntax.NotAscii at line)
 IsModuleFault text line modules.BadByte = (at : ℕ) × IsSyntaxFault text (syntax.BadByte at line)
 IsModuleFault text line modules.BigNumber = (at : ℕ) × IsSyntaxFault text (syntax.BigNumber at line)
@@ -101,13 +101,13 @@ pub record IsToldBy {Fault : Type 0} (is_fault : Fault → Type 0) (memory : Fau
   pub is : status ≡ told fault
 
 -- the text is not of this form, and the status tells its first fault, in the file of this number
-abbrev pub IsFaultOf : Module → ℕ → Form → Text → Status → Type 0
+abbrev pub IsFaultOf : Module → ℕ → Form → Bytes → Status → Type 0
 IsFaultOf source file (forms.Heap places) text status = IsToldBy (λ fault. Reads source places text (Err fault)) heap_faults.Memory heap_status status
 IsFaultOf source file (forms.Schedule callers) text status = IsToldBy (IsScheduleFault callers text) schedules.Memory (schedule_status file) status
 IsFaultOf source file forms.Operations text status = IsToldBy (IsCallsFault source text) faults.Memory (calls_status file) status
 
 -- what a text of this form says: a heap of the module, the gives of a schedule, or calls of the module
-abbrev pub Says : Module → Form → Text → Content → Type 0
+abbrev pub Says : Module → Form → Bytes → Content → Type 0
 Says source (forms.Heap places) text (contents.Heap heap) = Reads source places text (Ok heap.objects)
 Says source (forms.Heap places) text (contents.Schedule gives) = ⊥
 Says source (forms.Heap places) text (contents.Calls calls) = ⊥
@@ -120,7 +120,7 @@ Says source forms.Operations text (contents.Calls calls) = IsCallsFile source te
 
 -- the bytes at the path of a wanted file, at most as many as it may have, say this
 pub record IsFile (source : Module) (files : Source) (file : Wanted) (content : Content) : Type 0 where
-  pub text : Text
+  pub text : Bytes
   pub told : Tells (files.bytes_at file.path) text
   pub short : length text ≤ limit_of file.number
   pub says : Says source file.form text content
@@ -147,11 +147,11 @@ AreFiles source files [] before after = after ≡ before
 AreFiles source files (file ∷ rest) before after = (content : Content) × IsFile source files file content × AreFiles source files rest (with_content before content) after
 
 -- the bytes at the path of a module, at most as many as it may have, spell this tree, and the tree is this module
-pub record IsModuleFile (files : Source) (path : Text) (tree : Tree) (source : Module) : Type 0 where
-  pub text : Text
+pub record IsModuleFile (files : Source) (path : Bytes) (tree : Tree) (source : Module) : Type 0 where
+  pub text : Bytes
   pub told : Tells (files.bytes_at path) text
   pub short : length text ≤ limit_of 0
-  pub spelled : SpellsTree text tree
+  pub spelled : Spells text tree
   pub typed : Types tree source
 
 -- what the files behind a module say, as the program holds it
@@ -159,9 +159,9 @@ abbrev pub behind_of : Input → Behind
 behind_of input = record { heap = option_map (λ heap. heap.objects) input.heap; gives = input.schedule; all = input.all.items }
 
 -- the files of a command spell a tree that is a module, and behind it what the command wants
-pub record Spells (files : Source) (task : Task) (input : Input) : Type 0 where
-  pub source_file : IsModuleFile files task.first input.tree input.source
-  pub behind : AreFiles input.source files (wanted task) nothing_behind (behind_of input)
+pub record SpellsInput (files : Source) (request : Request) (input : Input) : Type 0 where
+  pub source_file : IsModuleFile files request.first input.tree input.source
+  pub behind : AreFiles input.source files (wanted request) nothing_behind (behind_of input)
 
 -- the heap from which the runs of a command start: the one that its heap file says, or else the start heap of the module
 abbrev pub first_heap : Module → Option View → Objects

@@ -19,17 +19,17 @@ use Rattle.dl_command.specs.declared.words.WordsFault.{WordsFault}
 use Rattle.dl_command.specs.declared.words.WordsFault.TheVariants as faults
 
 -- a word, as its bytes
-abbrev pub Text : Type 0
-Text = List ℕ
+abbrev pub Bytes : Type 0
+Bytes = List ℕ
 
 -- a command: what to do, the path of the module, the paths of the files behind it, how many hidden objects there may be at a
 -- time, and the path of a heap file, where one is given
-pub record Task : Type 0 where
+pub record Request : Type 0 where
   pub verb : Verb
-  pub first : Text
-  pub rest : List Text
+  pub first : Bytes
+  pub rest : List Bytes
   pub places : ℕ
-  pub heap : Option Text
+  pub heap : Option Bytes
 
 -- the word that says what to do
 abbrev pub command_rule : Rule
@@ -69,14 +69,14 @@ command_line = fold with_rule (on_top (λ shape. record shape { no_binary_name =
 
 -- what the command line gives: the words in their order, and what the options say
 pub record Line : Type 0 where
-  pub command : Text
-  pub first : Text
-  pub rest : List Text
+  pub command : Bytes
+  pub first : Bytes
+  pub rest : List Bytes
   pub places : ℕ
-  pub heap : Option Text
+  pub heap : Option Bytes
 
 -- the number that a text says, where 32 bits hold it
-abbrev pub number_of : Text → Option ℕ
+abbrev pub number_of : Bytes → Option ℕ
 number_of text = if is_unsigned_in 0 (2 ^ 32 - 1) text then Some (digits_value 10 (without_leading_plus text)) else None
 
 -- what the matches of the command line give
@@ -92,7 +92,7 @@ line_of_matches rows = option_and_then (λ command. option_and_then (λ first. o
 -- the table of commands, a row each: the word COMMAND, what it asks for, how many words REST has at least and at most, and whether it
 -- takes `--heap`; they are `serial MODULE OPERATIONS`, `run MODULE OPERATIONS..` and `step MODULE SCHEDULE OPERATIONS..` with up to 64
 -- operation files, which take a heap file, and `show MODULE` and `work SEED COUNT CALLERS`, which take none
-abbrev pub table : List (Text × CommandRow)
+abbrev pub table : List (Bytes × CommandRow)
 table =
     (codes "serial", record { verb = verbs.Serial; fewest = 1; most = 1; takes_heap = true })
     ∷ (codes "run", record { verb = verbs.Run; fewest = 1; most = 64; takes_heap = true })
@@ -102,49 +102,49 @@ table =
     ∷ []
 
 -- the row of a word
-abbrev pub row_of : Text → Option CommandRow
+abbrev pub row_of : Bytes → Option CommandRow
 row_of word = option_map (λ row. row.1) (find (λ row. bytes_eq row.0 word) table)
 
 -- the command that a row gives, where REST has as many words as the row asks for, and a heap file is given only where the row takes one
-abbrev pub task_by : Line → CommandRow → Option Task
-task_by line row =
+abbrev pub request_by : Line → CommandRow → Option Request
+request_by line row =
     if nat_lt (length line.rest) row.fewest then None
     else if nat_lt row.most (length line.rest) then None
     else if is_some line.heap && not row.takes_heap then None
     else Some (record { verb = row.verb; first = line.first; rest = line.rest; places = line.places; heap = line.heap })
 
 -- the command that the table has for what the words give
-abbrev pub task_of_line : Line → Option Task
-task_of_line line = option_and_then (task_by line) (row_of line.command)
+abbrev pub request_of_line : Line → Option Request
+request_of_line line = option_and_then (request_by line) (row_of line.command)
 
 -- the command that the matches of the command line give
-abbrev pub task_of_matches : List Row → Option Task
-task_of_matches rows = option_and_then task_of_line (line_of_matches rows)
+abbrev pub request_of_matches : List Row → Option Request
+request_of_matches rows = option_and_then request_of_line (line_of_matches rows)
 
 -- the command, unless the command line has something against the words
-abbrev pub unless_refused : Kinds → Option Task → Option Task
-unless_refused [] task = task
-unless_refused (kind ∷ kinds) task = None
+abbrev pub unless_refused : Kinds → Option Request → Option Request
+unless_refused [] request = request
+unless_refused (kind ∷ kinds) request = None
 
 -- the command that the words give, where they are good
-abbrev pub task_of_words : List Text → Option Task
-task_of_words words = unless_refused (fault_of command_line words) (task_of_matches (matches_of command_line words))
+abbrev pub request_of_words : List Bytes → Option Request
+request_of_words words = unless_refused (fault_of command_line words) (request_of_matches (matches_of command_line words))
 
 -- words that give this are good: the command line takes them, and they are as the table of commands says
-abbrev pub IsGood : Option Task → Type 0
-IsGood given = (task : Task) × (given ≡ Some task)
+abbrev pub IsGood : Option Request → Type 0
+IsGood given = (request : Request) × (given ≡ Some request)
 
 -- a command that needs no threads
-abbrev pub unless_run : Verb → Task → Option Task
-unless_run verbs.Run task = None
-unless_run verbs.Serial task = Some task
-unless_run verbs.Step task = Some task
-unless_run verbs.Show task = Some task
-unless_run verbs.Work task = Some task
+abbrev pub unless_run : Verb → Request → Option Request
+unless_run verbs.Run request = None
+unless_run verbs.Serial request = Some request
+unless_run verbs.Step request = Some request
+unless_run verbs.Show request = Some request
+unless_run verbs.Work request = Some request
 
 -- the command that the words give, where they are good and are not `run`
-abbrev pub still_task_of_words : List Text → Option Task
-still_task_of_words words = option_and_then (λ (task : Task). unless_run task.verb task) (task_of_words words)
+abbrev pub still_request_of_words : List Bytes → Option Request
+still_request_of_words words = option_and_then (λ (request : Request). unless_run request.verb request) (request_of_words words)
 
 -- the status of a call whose words give no command
 abbrev pub status_of : WordsFault → Status
@@ -172,5 +172,5 @@ abbrev pub line_held : Held → Line
 line_held line = record { command = line.command.now; first = line.first.now; rest = map (λ word. word.now) line.rest.items; places = line.places; heap = option_map (λ word. word.now) line.heap }
 
 -- a command as the program holds it
-abbrev pub task_of : Command → Task
-task_of command = record { verb = command.verb; first = command.first.now; rest = map (λ path. path.now) command.rest.items; places = command.places; heap = option_map (λ path. path.now) command.heap }
+abbrev pub request_of : Command → Request
+request_of command = record { verb = command.verb; first = command.first.now; rest = map (λ path. path.now) command.rest.items; places = command.places; heap = option_map (λ path. path.now) command.heap }

@@ -15,5 +15,5 @@ mod words;
 mod work;
 
 pub use status::{HeapWhy, ModuleWhy, OpsWhy, Status, exit_code, status_line};
-pub use top::{Outcome, domlock, domlock_still};
+pub use top::{Ending, domlock, domlock_still};
 pub use words::{Words, WordsFault};

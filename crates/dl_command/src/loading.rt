@@ -6,12 +6,12 @@ ghost use Rattle.dl_ir.specs.Checked.{IsChecked};
 ghost use Rattle.dl_ir.specs.declared.modules.Module.{Module as ModuleOf};
 ghost use Rattle.dl_command.specs.Causes.{NoFile, NoModule, Refuses};
 ghost use Rattle.dl_command.specs.Reading.{AfterReading, IsWithin};
-ghost use Rattle.dl_command.specs.Texts.{CanStart, IsModuleFile, IsFile, AreFiles, Says, Spells, behind_of, calls_status, heap_of, heap_status, nothing_behind, schedule_status, with_content};
+ghost use Rattle.dl_command.specs.Texts.{CanStart, IsModuleFile, IsFile, AreFiles, Says, SpellsInput, behind_of, calls_status, heap_of, heap_status, nothing_behind, schedule_status, with_content};
 ghost use Rattle.dl_heapfile.specs.Names.{HasNames};
 ghost use Rattle.dl_ir.specs.Heap.{HasStart};
 ghost use Rattle.dl_command.specs.Wanted.{wanted_held};
-ghost use Rattle.dl_command.specs.Words.{limit_of, task_of};
-ghost use Rattle.dl_grammar.specs.Texts.{Spells as SpellsTree};
+ghost use Rattle.dl_command.specs.Words.{limit_of, request_of};
+ghost use Rattle.dl_grammar.specs.Texts.{Spells};
 ghost use Rattle.dl_types.specs.Rules.{Types};
 ghost use Rattle.dl_command.specs.Loading.{syntax_status, type_status, IsFine, IsNumberOf, ParseCause, TextCause, StopsAt};
 
@@ -77,7 +77,7 @@ struct Parsed {
 // The tree that a text spells, and the module that the tree is.
 fn parse_module(alloc: Global, text: &[u8]) -> Result<Parsed, Status>
     requires { length text.now ≤ 262144 }
-    ensures spelled { IfOk result (λ parsed. SpellsTree text.now parsed.tree) }
+    ensures spelled { IfOk result (λ parsed. Spells text.now parsed.tree) }
     ensures typed { IfOk result (λ parsed. Types parsed.tree parsed.source) }
     ensures checked { IfOk result (λ parsed. IsChecked parsed.source) }
     ensures names { IfOk result (λ parsed. HasNames parsed.source) }
@@ -348,12 +348,12 @@ pub fn read_input<F: Files>(
     command: &Command<'_>,
 ) -> Result<Input, Status>
     requires { length command.now.rest.items ≤ 65 }
-    ensures spells { IfOk result (Spells (F.source files.old) (task_of command.now)) }
+    ensures spells { IfOk result (SpellsInput (F.source files.old) (request_of command.now)) }
     ensures checked { IfOk result (λ input. IsChecked input.source) }
     ensures calls { IfOk result (λ input. All (AreCallsOf input.source) input.all.items) }
     ensures start { IfOk result (λ input. CanStart input.source command.now.places (heap_of input)) }
     ensures within { OnOk result (IsWithin (F.source files.new)) }
-    ensures cause { IfErr result (Refuses (task_of command.now) (F.source files.old) (F.source files.new)) }
+    ensures cause { IfErr result (Refuses (request_of command.now) (F.source files.old) (F.source files.new)) }
     ensures after { AfterReading (F.source files.old) (F.source files.new) }
 {
     let Parsed { tree, source } = match read_source(alloc, files, command.first) {

@@ -13,7 +13,7 @@ ghost use Rattle.dl_schedule.specs.Rules.{IsGiveOf};
 ghost use Rattle.dl_command.specs.Promise.{Finishes, Prints};
 ghost use Rattle.dl_command.specs.Scheduled.{Course, HasEnded, IsLeft, IsReady, IsRoom};
 ghost use Rattle.dl_command.specs.Texts.{CanStart, first_heap, heap_of};
-ghost use Rattle.dl_command.specs.Words.{Text};
+ghost use Rattle.dl_command.specs.Words.{Bytes};
 
 use crate::loading::Input;
 use crate::run::{Run, put_run, sizes_of, total_of};
@@ -125,7 +125,7 @@ fn write_behind<K: Sink>(
     requires few { length input.now.all.items ≤ 64 }
     requires calls { All (AreCallsOf input.now.source) input.now.all.items }
     requires left { (course : Course) × IsLeft input.now.source input.now.all.items course run.now }
-    ensures { (start : Taken) (text : Text) → OnOk traced (Passes start nothing text (K.taken sink.old) out.old) → OnErr traced (Breaks start nothing text (K.taken sink.old)) → Prints result (text ++ report input.now.source input.now.all.items run.now.history.entries run.now.refusals run.now.closed.heap.objects) start (K.taken sink.new) }
+    ensures { (start : Taken) (text : Bytes) → OnOk traced (Passes start nothing text (K.taken sink.old) out.old) → OnErr traced (Breaks start nothing text (K.taken sink.old)) → Prints result (text ++ report input.now.source input.now.all.items run.now.history.entries run.now.refusals run.now.closed.heap.objects) start (K.taken sink.new) }
 {
     match traced {
         Ok(_) => match put_run(&input.source, input.all.as_slice(), run, out, sink) {

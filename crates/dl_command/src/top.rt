@@ -8,7 +8,7 @@ ghost use Rattle.dl_command.specs.Promise.{Finishes, Ends, nothing_done};
 ghost use Rattle.dl_schedule.specs.Rules.{IsGiveOf};
 ghost use Rattle.dl_command.specs.Texts.{CanStart, heap_of};
 ghost use Rattle.dl_command.specs.Wishes.{Comes, Keeps, still_wish_of_words, wish_by, wish_of_words};
-ghost use Rattle.dl_command.specs.Words.{MayHave, task_of};
+ghost use Rattle.dl_command.specs.Words.{MayHave, request_of};
 ghost use Rattle.dl_command.specs.Work.{FinishesWork};
 
 use crate::loading::{Input, read_input};
@@ -34,20 +34,20 @@ use std::thread::Threads;
 
 /// How a call ended, with the order in which the operations were carried out and with those that were refused.
 #[derive(Drop)]
-pub struct Outcome {
+pub struct Ending {
     pub status: Status,
     pub history: History,
     /// By caller and index.
     pub refusals: Items<Refusal>,
 }
 
-// An outcome of which nothing was carried out.
-fn nothing(alloc: Global, status: Status) -> Outcome
+// An ending before which nothing was carried out.
+fn nothing(alloc: Global, status: Status) -> Ending
     ensures status { result.status ≡ status }
     ensures history { result.history ≡ nothing_done }
     ensures refusals { result.refusals ≡ [] }
 {
-    Outcome {
+    Ending {
         status,
         history: History::empty(alloc),
         refusals: Items::new(alloc),
@@ -55,7 +55,7 @@ fn nothing(alloc: Global, status: Status) -> Outcome
 }
 
 // Runs the calls of a command one after another from the heap that is given or the start heap, and writes the report.
-fn serial<K: Sink>(alloc: Global, input: Input, places: u32, out: &mut K) -> Outcome
+fn serial<K: Sink>(alloc: Global, input: Input, places: u32, out: &mut K) -> Ending
     requires places { places ≤ 65536 }
     requires checked { IsChecked input.source }
     requires one { length input.all.items ≡ 1 }
@@ -75,7 +75,7 @@ fn serial<K: Sink>(alloc: Global, input: Input, places: u32, out: &mut K) -> Out
     match run_from(alloc, &source, start, places, all.as_slice()) {
         Ok(run) => {
             let status = write_run(&source, all.as_slice(), &run, out);
-            Outcome {
+            Ending {
                 status,
                 history: run.history,
                 refusals: run.refusals,
@@ -93,7 +93,7 @@ fn run<R: Threads + Wait + Sync, G: Ground, K: Sink, T: Gate>(
     places: u32,
     out: &mut K,
     gate: &T,
-) -> Outcome
+) -> Ending
     requires places { places ≤ 65536 }
     requires checked { IsChecked input.now.source }
     requires some { 1 ≤ length input.now.all.items }
@@ -105,7 +105,7 @@ fn run<R: Threads + Wait + Sync, G: Ground, K: Sink, T: Gate>(
     match run_over::<R, G, T>(rt, alloc, input, places, gate) {
         Ok(run) => {
             let status = write_run(&input.source, input.all.as_slice(), &run, out);
-            Outcome {
+            Ending {
                 status,
                 history: run.history,
                 refusals: run.refusals,
@@ -116,7 +116,7 @@ fn run<R: Threads + Wait + Sync, G: Ground, K: Sink, T: Gate>(
 }
 
 // Runs the calls of a command by its schedule from the heap that is given or the start heap, and writes the trace and the report.
-fn step<K: Sink>(alloc: Global, input: &Input, places: u32, out: &mut K) -> Outcome
+fn step<K: Sink>(alloc: Global, input: &Input, places: u32, out: &mut K) -> Ending
     requires places { places ≤ 65536 }
     requires checked { IsChecked input.now.source }
     requires some { 1 ≤ length input.now.all.items }
@@ -135,7 +135,7 @@ fn step<K: Sink>(alloc: Global, input: &Input, places: u32, out: &mut K) -> Outc
     ) {
         Ok(ready) => {
             let (status, run) = run_steps(input, ready, out);
-            Outcome {
+            Ending {
                 status,
                 history: run.history,
                 refusals: run.refusals,
@@ -146,7 +146,7 @@ fn step<K: Sink>(alloc: Global, input: &Input, places: u32, out: &mut K) -> Outc
 }
 
 // Writes the module in its canonical form, and its code.
-fn show<K: Sink>(alloc: Global, input: &Input, out: &mut K) -> Outcome
+fn show<K: Sink>(alloc: Global, input: &Input, out: &mut K) -> Ending
     ensures { (places : ℕ) → Finishes Verb.Show input.now places (K.taken out.old) (K.taken out.new) result.status result.history result.refusals }
 {
     match instrument(alloc, &input.source) {
@@ -156,7 +156,7 @@ fn show<K: Sink>(alloc: Global, input: &Input, out: &mut K) -> Outcome
 }
 
 // Runs the operations that a seed gives, and writes the summary.
-fn work<K: Sink>(alloc: Global, asked: Asked, places: u32, out: &mut K) -> Outcome
+fn work<K: Sink>(alloc: Global, asked: Asked, places: u32, out: &mut K) -> Ending
     requires places { places ≤ 65536 }
     requires some { (1 ≤ asked.count) × (1 ≤ asked.callers) }
     requires few { (asked.count ≤ 65536) × (asked.callers ≤ 64) }
@@ -165,7 +165,7 @@ fn work<K: Sink>(alloc: Global, asked: Asked, places: u32, out: &mut K) -> Outco
     match run_work(alloc, asked, places) {
         Ok(worked) => {
             let status = write_work(&worked, out);
-            Outcome {
+            Ending {
                 status,
                 history: worked.run.history,
                 refusals: worked.run.refusals,
@@ -180,11 +180,11 @@ fn serial_command<F: Files, K: Sink>(
     command: &Command<'_>,
     files: &mut F,
     out: &mut K,
-) -> Outcome
+) -> Ending
     requires verb { command.now.verb ≡ Verb.Serial }
     requires rest { MayHave Verb.Serial (length command.now.rest.items) }
     requires places { (1 ≤ command.now.places) × (command.now.places ≤ 65536) }
-    ensures { Ends (Some (task_of command.now)) (F.source files.old) (F.source files.new) (K.taken out.old) (K.taken out.new) result.status result.history result.refusals }
+    ensures { Ends (Some (request_of command.now)) (F.source files.old) (F.source files.new) (K.taken out.old) (K.taken out.new) result.status result.history result.refusals }
 {
     match read_input(alloc, files, command) {
         Ok(input) => serial(alloc, input, command.places, out),
@@ -199,11 +199,11 @@ fn run_command<R: Threads + Wait + Sync, G: Ground, F: Files, K: Sink, T: Gate>(
     files: &mut F,
     out: &mut K,
     gate: &T,
-) -> Outcome
+) -> Ending
     requires verb { command.now.verb ≡ Verb.Run }
     requires rest { MayHave Verb.Run (length command.now.rest.items) }
     requires places { command.now.places ≤ 65536 }
-    ensures { Ends (Some (task_of command.now)) (F.source files.old) (F.source files.new) (K.taken out.old) (K.taken out.new) result.status result.history result.refusals }
+    ensures { Ends (Some (request_of command.now)) (F.source files.old) (F.source files.new) (K.taken out.old) (K.taken out.new) result.status result.history result.refusals }
 {
     match read_input(alloc, files, command) {
         Ok(input) => run::<R, G, K, T>(rt, alloc, &input, command.places, out, gate),
@@ -216,11 +216,11 @@ fn step_command<F: Files, K: Sink>(
     command: &Command<'_>,
     files: &mut F,
     out: &mut K,
-) -> Outcome
+) -> Ending
     requires verb { command.now.verb ≡ Verb.Step }
     requires rest { MayHave Verb.Step (length command.now.rest.items) }
     requires places { command.now.places ≤ 65536 }
-    ensures { Ends (Some (task_of command.now)) (F.source files.old) (F.source files.new) (K.taken out.old) (K.taken out.new) result.status result.history result.refusals }
+    ensures { Ends (Some (request_of command.now)) (F.source files.old) (F.source files.new) (K.taken out.old) (K.taken out.new) result.status result.history result.refusals }
 {
     match read_input(alloc, files, command) {
         Ok(input) => step(alloc, &input, command.places, out),
@@ -233,10 +233,10 @@ fn show_command<F: Files, K: Sink>(
     command: &Command<'_>,
     files: &mut F,
     out: &mut K,
-) -> Outcome
+) -> Ending
     requires verb { command.now.verb ≡ Verb.Show }
     requires rest { MayHave Verb.Show (length command.now.rest.items) }
-    ensures { Ends (Some (task_of command.now)) (F.source files.old) (F.source files.new) (K.taken out.old) (K.taken out.new) result.status result.history result.refusals }
+    ensures { Ends (Some (request_of command.now)) (F.source files.old) (F.source files.new) (K.taken out.old) (K.taken out.new) result.status result.history result.refusals }
 {
     match read_input(alloc, files, command) {
         Ok(input) => show(alloc, &input, out),
@@ -244,9 +244,9 @@ fn show_command<F: Files, K: Sink>(
     }
 }
 
-fn work_command<K: Sink>(alloc: Global, command: &Command<'_>, out: &mut K) -> Outcome
+fn work_command<K: Sink>(alloc: Global, command: &Command<'_>, out: &mut K) -> Ending
     requires places { command.now.places ≤ 65536 }
-    ensures { (files : Source) → Comes (wish_by Verb.Work (task_of command.now)) files files (K.taken out.old) (K.taken out.new) result.status result.history result.refusals }
+    ensures { (files : Source) → Comes (wish_by Verb.Work (request_of command.now)) files files (K.taken out.old) (K.taken out.new) result.status result.history result.refusals }
 {
     match asked_of(command.first, command.rest.as_slice()) {
         Some(asked) => work(alloc, asked, command.places, out),
@@ -254,7 +254,7 @@ fn work_command<K: Sink>(alloc: Global, command: &Command<'_>, out: &mut K) -> O
     }
 }
 
-fn run_still<F: Files, K: Sink>(alloc: Global, words: &Words, files: &mut F, out: &mut K) -> Outcome
+fn run_still<F: Files, K: Sink>(alloc: Global, words: &Words, files: &mut F, out: &mut K) -> Ending
     ensures { Comes (still_wish_of_words words.now) (F.source files.old) (F.source files.new) (K.taken out.old) (K.taken out.new) result.status result.history result.refusals }
 {
     let command = match command_of(alloc, words) {
@@ -277,7 +277,7 @@ pub fn domlock_still<F: Files, K: Sink>(
     words: &Words,
     files: &mut F,
     out: &mut K,
-) -> Outcome
+) -> Ending
     ensures { Keeps (still_wish_of_words words.now) (F.source files.old) (F.source files.new) (K.taken out.old) (K.taken out.new) result }
 {
     spelled_has_names();
@@ -292,7 +292,7 @@ fn domlock_over<R: Threads + Wait + Sync, G: Ground, F: Files, K: Sink, T: Gate>
     files: &mut F,
     out: &mut K,
     gate: &T,
-) -> Outcome
+) -> Ending
     ensures { Keeps (wish_of_words words.now) (F.source files.old) (F.source files.new) (K.taken out.old) (K.taken out.new) result }
 {
     spelled_has_names();
@@ -321,7 +321,7 @@ pub fn domlock<R: Threads + Wait + Sync, F: Files, K: Sink, T: Gate>(
     files: &mut F,
     out: &mut K,
     gate: &T,
-) -> Outcome
+) -> Ending
     ensures { Keeps (wish_of_words words.now) (F.source files.old) (F.source files.new) (K.taken out.old) (K.taken out.new) result }
 {
     domlock_over::<R, OneTurn, F, K, T>(rt, alloc, words, files, out, gate)

@@ -3,7 +3,7 @@
 ghost use Rattle.std.specs.Prelude.{◌≡◌, ◌≤◌, ◌++◌, map, option_map, IfOk, OnOk, length};
 ghost use Rattle.dl_command.specs.Wanted as spec;
 ghost use Rattle.dl_command.specs.Wanted.{operations_from, wanted_held};
-ghost use Rattle.dl_command.specs.Words.{task_of};
+ghost use Rattle.dl_command.specs.Words.{request_of};
 
 use crate::words::{Command, Verb};
 use std::alloc::{AllocError, Global};
@@ -93,7 +93,7 @@ pub fn wanted_files<'a>(
     command: &Command<'a>,
 ) -> Result<Vec<WantedFile<'a>>, AllocError>
     requires { length command.now.rest.items ≤ 65 }
-    ensures { IfOk result (λ wanted. map wanted_held wanted.items ≡ spec.wanted (task_of command.now)) }
+    ensures { IfOk result (λ wanted. map wanted_held wanted.items ≡ spec.wanted (request_of command.now)) }
 {
     let mut wanted = Vec::new(alloc);
     add_heap(&mut wanted, command.places, command.heap)?;

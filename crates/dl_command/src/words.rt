@@ -4,7 +4,7 @@ ghost use Rattle.std.specs.Prelude.{◌≡◌, ◌≢◌, ◌≤◌, map, option
 ghost use Rattle.std.specs.Prelude.{[], codes, unwrap_or};
 ghost use Rattle.clap.specs.Words.{all_of, app_of, found_of, rows_of};
 ghost use Rattle.dl_command.specs.Words as spec;
-ghost use Rattle.dl_command.specs.Words.{task_of, task_of_words};
+ghost use Rattle.dl_command.specs.Words.{request_of, request_of_words};
 
 use crate::status::Status;
 use clap::error::ErrorKind;
@@ -208,7 +208,7 @@ fn row_of(word: &str) -> Option<CommandRow>
 
 // The command that the table has for what the command line gives.
 fn command_by(line: Line<'_>) -> Option<Command<'_>>
-    ensures { option_map task_of result ≡ spec.task_of_line (spec.line_held line.entry) }
+    ensures { option_map request_of result ≡ spec.request_of_line (spec.line_held line.entry) }
 {
     let Line {
         command,
@@ -235,8 +235,8 @@ fn command_by(line: Line<'_>) -> Option<Command<'_>>
 
 // The command that the matches of the command line give.
 fn command_given<'a>(alloc: Global, matches: &ArgMatches<'a>) -> Result<Command<'a>, WordsFault>
-    ensures ok { IfOk result (λ command. spec.task_of_matches (rows_of (found_of matches.now)) ≡ Some (task_of command)) }
-    ensures usage { IsErrOf result WordsFault.Usage → spec.task_of_matches (rows_of (found_of matches.now)) ≡ None }
+    ensures ok { IfOk result (λ command. spec.request_of_matches (rows_of (found_of matches.now)) ≡ Some (request_of command)) }
+    ensures usage { IsErrOf result WordsFault.Usage → spec.request_of_matches (rows_of (found_of matches.now)) ≡ None }
 {
     let line = match line_of(alloc, matches) {
         Ok(line) => line,
@@ -261,8 +261,8 @@ fn fault_of(kind: ErrorKind) -> WordsFault
 
 /// Reads the words by the command line and the table of commands, which `docs/FORMATS.md` tells.
 pub fn command_of(alloc: Global, words: &Words) -> Result<Command<'_>, WordsFault>
-    ensures ok { IfOk result (λ command. task_of_words words.entry.now ≡ Some (task_of command)) }
-    ensures usage { IsErrOf result WordsFault.Usage → task_of_words words.entry.now ≡ None }
+    ensures ok { IfOk result (λ command. request_of_words words.entry.now ≡ Some (request_of command)) }
+    ensures usage { IsErrOf result WordsFault.Usage → request_of_words words.entry.now ≡ None }
     ensures rest { IfOk result (λ command. spec.MayHave command.verb (length command.rest.items)) }
     ensures places { IfOk result (λ command. (1 ≤ command.places) × (command.places ≤ 65536)) }
 {

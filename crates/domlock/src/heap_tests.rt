@@ -1,8 +1,8 @@
 //! Runs that go on from a heap file, and what is told of a heap file at fault. The folder examples/ has the same texts.
 
-use crate::rows::{SEAL, SEAL_REPORT, SKEW_REPORT};
+use crate::report_tests::{SEAL, SEAL_REPORT, SKEW_REPORT};
 use crate::tests::{line_of, words_of};
-use dl_command::{Outcome, Status, domlock, domlock_still, exit_code};
+use dl_command::{Ending, Status, domlock, domlock_still, exit_code};
 use dl_io::{MemFiles, MemSink};
 use dl_machine::Open;
 use dl_modules::SKEW;
@@ -34,7 +34,7 @@ fn call(
     ops: &[u8],
     heap: &[u8],
     sink: &mut MemSink,
-) -> Result<Outcome, Fail> {
+) -> Result<Ending, Fail> {
     let words = words_of(alloc, line)?;
     let mut files = files_of(alloc, module, ops, heap, &[])?;
     Ok(domlock_still(alloc, &words, &mut files, sink))

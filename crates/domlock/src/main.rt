@@ -7,7 +7,7 @@ mod emit_tests;
 #[cfg(test)]
 mod heap_tests;
 #[cfg(test)]
-mod rows;
+mod report_tests;
 #[cfg(test)]
 mod run_tests;
 #[cfg(test)]

@@ -7,7 +7,7 @@ ghost use Rattle.dl_meaning.specs.Operations.{AreFilesOf};
 ghost use Rattle.dl_replay.specs.Faults.{NamesOperation};
 
 use crate::tests::call;
-use dl_command::{Outcome, Status, Words, domlock};
+use dl_command::{Ending, Status, Words, domlock};
 use dl_core::Progress;
 use dl_grammar::read_module;
 use dl_history::{History, call_of, write_report};
@@ -59,7 +59,7 @@ fn run<R: Threads + Wait + Sync, T: Gate>(
     fails: &[u64],
     gate: &T,
     sink: &mut MemSink,
-) -> Result<Outcome, Fail> {
+) -> Result<Ending, Fail> {
     let words = words_of(alloc, trial)?;
     let mut files = MemFiles::new(alloc, 100_000, fails)?;
     files.add("m", trial.module)?;
@@ -354,7 +354,7 @@ fn a_gate_gives_the_order(rt: HostRuntime) -> Result<(), Fail> {
 }
 
 // The line that a report has of what came of an operation, which is either in the history or among the refusals.
-fn answer_line(alloc: Global, outcome: &Outcome, caller: u32, index: u32) -> Result<String, Fail> {
+fn answer_line(alloc: Global, outcome: &Ending, caller: u32, index: u32) -> Result<String, Fail> {
     let run = outcome
         .history
         .entries()
@@ -385,7 +385,7 @@ fn answer_line(alloc: Global, outcome: &Outcome, caller: u32, index: u32) -> Res
 // Puts the lines of a caller's operations, of which there are so many.
 fn put_answers(
     alloc: Global,
-    outcome: &Outcome,
+    outcome: &Ending,
     caller: u32,
     each: u32,
     text: &mut String,
@@ -398,7 +398,7 @@ fn put_answers(
 }
 
 // How a report begins, up to its history, where each caller has so many operations.
-fn answers_of(alloc: Global, outcome: &Outcome, callers: u32, each: u32) -> Result<String, Fail> {
+fn answers_of(alloc: Global, outcome: &Ending, callers: u32, each: u32) -> Result<String, Fail> {
     let run = outcome.history.entries().len();
     let all = run.saturating_add(outcome.refusals.len());
     let mut text = format!(in alloc; "domlock report 1\nanswers {all}\n")?;

@@ -2,7 +2,7 @@
 
 ghost use Rattle.std.specs.Prelude.{◌≤◌};
 
-use dl_command::{OpsWhy, Outcome, Status, Words, domlock_still, exit_code, status_line};
+use dl_command::{Ending, OpsWhy, Status, Words, domlock_still, exit_code, status_line};
 use dl_io::{MemFiles, MemSink};
 use dl_modules::{COUNTER, SKEW};
 use dl_text::Out;
@@ -28,7 +28,7 @@ pub fn call(
     module: &[u8],
     ops: &[u8],
     sink: &mut MemSink,
-) -> Result<Outcome, Fail> {
+) -> Result<Ending, Fail> {
     let words = words_of(alloc, line)?;
     let mut files = MemFiles::new(alloc, 100, &[])?;
     files.add("m", module)?;

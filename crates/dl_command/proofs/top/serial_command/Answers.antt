@@ -1,7 +1,7 @@
 use Rattle.std.proofs.Common.{◌∙◌, refl}
 use Rattle.std.proofs.lemmas.List.{length-map}
 use Rattle.dl_command.specs.Promise.{Ends}
-use Rattle.dl_command.specs.Words.{task_of}
+use Rattle.dl_command.specs.Words.{request_of}
 use Rattle.dl_command.proofs.EndLemmas.{ends_finished}
 use Rattle.dl_command.proofs.FileLemmas.{operations_behind}
 use Rattle.dl_command.proofs.top.serial_command.Goals as goal
@@ -12,8 +12,8 @@ serial-requires-clause-one g c =
     (operations_behind _ _ _ _ _ _ behind).all ∙ (length-map c.args.command.now.rest.items (λ path. path.now) ∙ c.requires.rest)
 
 pub returns-in-Ok : goal.returns-in-Ok
-returns-in-Ok g c = ends_finished (task_of c.args.command.now) refl c.in-Ok.ensures.spells c.in-Ok.ensures.within (rw c.requires.verb c.serial.ensures)
+returns-in-Ok g c = ends_finished (request_of c.args.command.now) refl c.in-Ok.ensures.spells c.in-Ok.ensures.within (rw c.requires.verb c.serial.ensures)
 
 pub returns-in-Err : goal.returns-in-Err
 returns-in-Err g c = let n = c.nothing.ensures in
-    Ends.refused (task_of c.args.command.now) refl (rw n.status c.in-Err.ensures.cause) refl n.history n.refusals
+    Ends.refused (request_of c.args.command.now) refl (rw n.status c.in-Err.ensures.cause) refl n.history n.refusals

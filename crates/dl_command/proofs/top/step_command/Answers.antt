@@ -3,7 +3,7 @@ use Rattle.std.specs.Prelude.{All}
 use Rattle.std.proofs.lemmas.List.{length-map}
 use Rattle.dl_schedule.specs.Rules.{IsGiveOf}
 use Rattle.dl_command.specs.Promise.{Ends}
-use Rattle.dl_command.specs.Words.{task_of}
+use Rattle.dl_command.specs.Words.{request_of}
 use Rattle.dl_command.proofs.EndLemmas.{ends_finished}
 use Rattle.dl_command.proofs.FileLemmas.{step_counts}
 use Rattle.dl_command.proofs.top.step_command.Goals as goal
@@ -30,8 +30,8 @@ step-requires-clause-callers g c =
     subst (λ n. All (IsGiveOf n) c.in-Ok.input.schedule) (sym counts.2.all) counts.2.gives
 
 pub returns-in-Ok : goal.returns-in-Ok
-returns-in-Ok g c = ends_finished (task_of c.args.command.now) refl c.in-Ok.ensures.spells c.in-Ok.ensures.within (rw c.requires.verb c.step.ensures)
+returns-in-Ok g c = ends_finished (request_of c.args.command.now) refl c.in-Ok.ensures.spells c.in-Ok.ensures.within (rw c.requires.verb c.step.ensures)
 
 pub returns-in-Err : goal.returns-in-Err
 returns-in-Err g c = let n = c.nothing.ensures in
-    Ends.refused (task_of c.args.command.now) refl (rw n.status c.in-Err.ensures.cause) refl n.history n.refusals
+    Ends.refused (request_of c.args.command.now) refl (rw n.status c.in-Err.ensures.cause) refl n.history n.refusals
